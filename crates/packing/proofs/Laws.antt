@@ -1,0 +1,56 @@
+-- The laws of every mask, and those of 2D and 3D, where what is left is computed of the masks and shifts.
+-- Assumes nothing.
+use mathlib.Core.Path.{_≡_, sym, ap, ap₂, _∙_, subst}
+use mathlib.Core.List.{List, [], _∷_}
+use Prim.Native.Nat.{ℕ, _+_, _%_, _^_, _<_}
+use native.Mathlib.Nat.{mod-eq-of-lt, mod-mod}
+use lib.Bits.{bitAnd}
+use Rattle.packing.specs.Mask.{Mask, num, count, coord, place, bits, axisSum, whole, packed}
+use Rattle.packing.specs.Ids.{dim2, dim3, packedShifts}
+use Rattle.packing.specs.Laws.{OfMask, OfSum, Laws}
+use Rattle.packing.proofs.Linear.{run, alike}
+use Rattle.packing.proofs.Group.{coord-place, place-coord, coord-lt, apart, fromAll, disjoint}
+use Rattle.packing.proofs.Sum.{place-mod, num-bits}
+use Rattle.packing.proofs.Axis.{cut}
+use Rattle.packing.proofs.Shifts.{just, all-in, has, same-list, grid}
+use Rattle.packing.proofs.Regions.{allCut, zeros}
+use Rattle.packing.proofs.Cells.{Good, leads, allDiffer, absent, laws-of}
+
+pub of-mask : (m : Mask) → OfMask m
+of-mask m = record { back = coord-place m; again = place-coord m }
+
+-- a coordinate is read without the bits outside of the mask, and placed without any
+read-clean : (m : Mask) (i : ℕ) → coord m (bitAnd i (num m)) ≡ coord m i
+read-clean m i = ap (coord m) (sym (place-coord m i)) ∙ coord-place m (coord m i) ∙ mod-eq-of-lt (coord-lt m i)
+
+place-clean : (m : Mask) (c : ℕ) → bitAnd (place m c) (num m) ≡ place m c
+place-clean m c = sym (place-coord m (place m c)) ∙ ap (place m) (coord-place m c) ∙ place-mod m c
+
+pub of-sum : (mask : ℕ) → mask < 2 ^ 64 → OfSum mask
+unfolding axisSum
+of-sum mask h =
+    let m : Mask = bits 64 mask in
+    let n : num (bits 64 mask) ≡ mask = num-bits 64 mask ∙ mod-eq-of-lt h in
+    let read : (i : ℕ) → coord m (bitAnd i mask) ≡ coord m i = λ i. subst (λ (x : ℕ). coord m (bitAnd i x) ≡ coord m i) n (read-clean m i) in
+    record {
+      adds = λ i j. coord-place m ((coord m i + coord m j) % 2 ^ count m) ∙ mod-mod (coord m i + coord m j) (2 ^ count m);
+      ignores = λ i j. ap₂ (λ (x y : ℕ). place m ((x + y) % 2 ^ count m)) (read i) (read j);
+      clean =
+          λ i j. subst (λ (x : ℕ). bitAnd (axisSum mask i j) x ≡ axisSum mask i j) n (place-clean m ((coord m i + coord m j) % 2 ^ count m));
+    }
+
+pub good2 : Good dim2
+unfolding dim2 disjoint fromAll apart allCut cut count just all-in has same-list grid zeros leads run alike coord whole num allDiffer absent packedShifts packed place
+good2 =
+    record { packs = tt; adds = tt; cuts = tt; stencil = tt; neighbours = tt; colours = tt; words = tt; differ = tt }
+
+pub good3 : Good dim3
+unfolding dim3 disjoint fromAll apart allCut cut count just all-in has same-list grid zeros leads run alike coord whole num allDiffer absent packedShifts packed place
+good3 =
+    record { packs = tt; adds = tt; cuts = tt; stencil = tt; neighbours = tt; colours = tt; words = tt; differ = tt }
+
+pub laws2 : Laws dim2
+laws2 = laws-of dim2 good2
+
+pub laws3 : Laws dim3
+laws3 = laws-of dim3 good3

@@ -1,0 +1,58 @@
+-- The definitions on document 01's values: where each bit goes, how many bits each axis keeps, and packing's rows of "Values to prove together".
+-- Assumes nothing.
+use mathlib.Core.Bool.{Bool, true, false, _&&_}
+use mathlib.Core.List.{List, [], _∷_, map}
+use mathlib.Core.Path.{_≡_, refl}
+use Prim.Native.Nat.{ℕ, zero, suc, _+_, _-_, _*_, _^_}
+use lib.Dec.{T, eqb}
+use lib.IntN.{ℤ, pos, negsuc}
+use Rattle.packing.specs.Mask.{Mask, num, count, coord, place, coords, packed, sums, sumOf, whole}
+use Rattle.packing.specs.Ids.{axis, dim2, dim3, packedId, complement, sum, diagonal, minusOne, minusTwo, plusFive, packedShifts, packedRegionShifts}
+
+-- ---- "x bits 0 and 1 go to bits 6 and 7 ..; x bit k (2 to 27) goes to bit 12 + 2(k-2), y bit k one higher"
+
+unfoldable pub goesTo : ℕ → ℕ → ℕ → ℕ → ℕ
+goesTo lo hi step zero = lo
+goesTo lo hi step (suc zero) = lo + 1
+goesTo lo hi step (suc (suc k)) = hi + step * k
+
+-- each of the k lowest bits of a coordinate goes there
+unfoldable pub go : ℕ → ℕ → ℕ → ℕ → Bool
+unfolding goesTo place axis
+go lo hi step zero = true
+go lo hi step (suc k) = eqb (place (axis lo hi step) (2 ^ k)) (2 ^ goesTo lo hi step k) && go lo hi step k
+
+pub bits2 : T (go 6 12 2 28) × T (go 8 13 2 28)
+unfolding go
+bits2 = (tt, tt)
+
+pub bits3 : T (go 6 12 3 20) × T (go 8 13 3 19) × T (go 10 14 3 19)
+unfolding go
+bits3 = (tt, tt, tt)
+
+-- "y and z keep 19 bits. x keeps 20"; in sums 19 each
+pub kept : (map count (dim2 .axes) ≡ 28 ∷ 28 ∷ []) × (map count (dim2 .sumAxes) ≡ 28 ∷ 28 ∷ [])
+    × (map count (dim3 .axes) ≡ 20 ∷ 19 ∷ 19 ∷ []) × (map count (dim3 .sumAxes) ≡ 19 ∷ 19 ∷ 19 ∷ [])
+unfolding count dim2 dim3
+kept = (refl, refl, refl, refl)
+
+-- "Bits 0 to 5, 10 and 11 are stray"; in 3D "bits 0 to 5, and in sums bit 63"
+pub stray : (whole (dim2 .axes) ≡ 2 ^ 64 - 2 ^ 12 + (2 ^ 10 - 2 ^ 6)) × (whole (dim3 .axes) ≡ 2 ^ 64 - 2 ^ 6) × (whole (dim3 .sumAxes) ≡ 2 ^ 63 - 2 ^ 6)
+unfolding whole num dim2 dim3
+stray = (refl, refl, refl)
+
+-- ---- the rows of the table
+
+pub record Values : Type 0 where
+  pub two : packedId dim2 (2 ∷ 2 ∷ []) ≡ 640
+  pub five : packedId dim2 (5 ∷ 5 ∷ []) ≡ 12608
+  pub negative : packedId dim2 (complement (negsuc 0) ∷ complement (negsuc 0) ∷ []) ≡ 18446744073709548480
+  pub plus : sum dim2 18446744073709548480 12608 ≡ 12288
+  pub wraps : packedId dim2 (2 ^ 28 ∷ 0 ∷ []) ≡ 0
+  pub four : packedId dim3 (4 ∷ 4 ∷ 4 ∷ []) ≡ 28672
+  pub negative3 : packedId dim3 (complement (negsuc 0) ∷ complement (negsuc 0) ∷ complement (negsuc 0) ∷ []) ≡ 18446744073709551552
+  pub plus3 : sum dim3 18446744073709551552 0 ≡ 9223372036854775744
+
+pub values : Values
+unfolding packedId packed place complement sum sumOf sums coords coord count dim2 dim3
+values = record { two = refl; five = refl; negative = refl; plus = refl; wraps = refl; four = refl; negative3 = refl; plus3 = refl }

@@ -1,0 +1,30 @@
+//! The handed-over Rust, compiled for one dimension: `sparkl2d` and `sparkl3d` both build this file.
+
+// The handed-over files import from crates that are not here; each of those names leads to this crate's own stand-ins.
+extern crate self as anyhow;
+extern crate self as bytemuck;
+extern crate self as memmap2;
+extern crate self as na;
+
+#[macro_use]
+#[path = "stand_ins.rs"]
+mod stand_ins;
+
+pub(crate) use stand_ins::vector;
+pub use stand_ins::{from_bytes, from_bytes_mut, math, MmapMut, Pod, Result};
+
+// The handed-over text is not ours to tidy.
+#[allow(warnings, clippy::all)]
+pub mod geometry {
+    include!(concat!(env!("OUT_DIR"), "/src/geometry/mod.rs"));
+}
+
+#[allow(warnings, clippy::all)]
+pub mod utils {
+    include!(concat!(env!("OUT_DIR"), "/src/utils/mod.rs"));
+}
+
+/// Every handed-over file of this build: its path, and its bytes as they stand in the very copy that is compiled.
+pub fn sources() -> Vec<(&'static str, &'static [u8])> {
+    include!(concat!(env!("OUT_DIR"), "/sources.rs"))
+}

@@ -1,0 +1,5 @@
+pub use self::morton2::{morton_decode2, morton_encode2};
+pub use self::morton3::{morton_decode3, morton_encode3};
+
+mod morton2;
+mod morton3;

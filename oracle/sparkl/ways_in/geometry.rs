@@ -1,0 +1,1 @@
+pub use self::sp_grid::way_in;
