@@ -120,8 +120,8 @@ near-is n a b t =
 next : (n a : ℕ) → a < n → (((a + 1) % n ≡ a + 1) × (a + 1 < n)) ⊎ (((a + 1) % n ≡ 0) × (a + 1 ≡ n))
 next n a h =
     elim (decLt (a + 1) n) [
-      yes p ↦ inl (mod-eq-of-lt p, p)
-    | no q ↦ let e : a + 1 ≡ n = omega arith in inr (ap (λ (x : ℕ). x % n) e ∙ mod-self n, e)
+      | yes p ↦ inl (mod-eq-of-lt p, p)
+      | no q ↦ let e : a + 1 ≡ n = omega arith in inr (ap (λ (x : ℕ). x % n) e ∙ mod-self n, e)
     ]
 
 -- of one parity, near blocks are one block

@@ -75,9 +75,10 @@ distinct (x ∷ l) t =
 -- what differs still does, moved by a function that can be undone
 distinct-map : (f : ℕ → ℕ) (l : List ℕ) → ((x y : ℕ) → x ∈ l → y ∈ l → f x ≡ f y → x ≡ y) → Distinct l → Distinct (map f l)
 distinct-map f [] h u = tt
-distinct-map f (x ∷ l) h u =
-    (λ m. let w = from-map f l m in u .0 (Memᴰ·cast (h x (w .at) (List·Memᴰ·head refl) (List·Memᴰ·tail (w .stands)) (w .gives)) (w .stands)),
-    distinct-map f l (λ a b p q. h a b (List·Memᴰ·tail p) (List·Memᴰ·tail q)) (u .1))
+distinct-map f (x ∷ l) h u = (
+  λ m. let w = from-map f l m in u .0 (Memᴰ·cast (h x (w .at) (List·Memᴰ·head refl) (List·Memᴰ·tail (w .stands)) (w .gives)) (w .stands)),
+  distinct-map f l (λ a b p q. h a b (List·Memᴰ·tail p) (List·Memᴰ·tail q)) (u .1),
+)
 
 -- ---- regions as numbers
 

@@ -135,8 +135,8 @@ floor-small m w a b p q =
 four-or-none : (n : ℕ) → n < 8 → floor n ∈ fours
 four-or-none n h =
     elim (decLt n 4) [
-      yes p ↦ let e : floor n ≡ 0 = omega arith in List·Memᴰ·head e
-    | no q ↦ let e : floor n ≡ 4 = omega arith in List·Memᴰ·tail (List·Memᴰ·head e)
+      | yes p ↦ let e : floor n ≡ 0 = omega arith in List·Memᴰ·head e
+      | no q ↦ let e : floor n ≡ 4 = omega arith in List·Memᴰ·tail (List·Memᴰ·head e)
     ]
 
 pub carried : (ms : List Mask) → Axes ms → (n : ℕ) (cs : List ℕ) → Each steps ms cs

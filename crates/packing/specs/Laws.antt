@@ -30,11 +30,9 @@ pub record OfSum (mask : ℕ) : Type 0 where
 pub record Laws (d : Dim) : Type 0 where
   -- 1. What is packed is unpacked, each coordinate modulo 2 to the number of its bits.
   pub unpacked : (cs : List ℕ) → coordinates d (packedId d cs) ≡ wrapped (d .axes) cs
-
   -- 2. A sum adds coordinates, modulo 2 to the number of their bits, whatever stray bits its arguments have, and has none itself.
   pub adds : (i j : ℕ) → coords (d .sumAxes) (sum d i j) ≡ sums (d .sumAxes) (coords (d .sumAxes) i) (coords (d .sumAxes) j)
   pub ignores : (i j : ℕ) → sum d (bitAnd i (whole (d .sumAxes))) (bitAnd j (whole (d .sumAxes))) ≡ sum d i j
-
   -- 3. Cells are a commutative group.
   pub closed : (i j : ℕ) → IsCell d (sum d i j)
   pub assoc : (i j k : ℕ) → sum d (sum d i j) k ≡ sum d i (sum d j k)
@@ -43,7 +41,6 @@ pub record Laws (d : Dim) : Type 0 where
   pub neutral : {i : ℕ} → IsCell d i → sum d i 0 ≡ i
   pub negated : (i : ℕ) → IsCell d (minus (d .sumAxes) i)
   pub inverse : (i : ℕ) → sum d i (minus (d .sumAxes) i) ≡ 0
-
   -- 4. A cell is its region and its number, and these two fix it.
   pub rejoined : {i : ℕ} → IsCell d i → cellOf d (region i) (number d i) ≡ i
   pub fixed : {i j : ℕ} → IsCell d i → IsCell d j → region i ≡ region j → number d i ≡ number d j → i ≡ j
@@ -51,20 +48,17 @@ pub record Laws (d : Dim) : Type 0 where
   pub isCell : (r n : ℕ) → IsCell d (cellOf d r n)
   pub regionOf : {r : ℕ} → IsRegion d r → (n : ℕ) → region (cellOf d r n) ≡ r
   pub numberOf : (r n : ℕ) → number d (cellOf d r n) ≡ n % 4 ^ length (d .sumAxes)
-
   -- 5. The region of each stencil id of a cell is the cell's region or one of its neighbours; which one follows from the cell's number and the shift.
   pub carries : {i : ℕ} → IsCell d i → (shift : ℕ) → region (sum d i shift) ≡ sum d (region i) (carry d (number d i) shift)
   pub carried : (n : ℕ) {shift : ℕ} → shift ∈ packedShifts d → carry d n shift ∈ 0 ∷ packedRegionShifts d
   pub reaches : {i x : ℕ} → IsCell d i → x ∈ stencilOf d i → region x ∈ reach d (region i)
   -- The regions whose cells' stencils can reach a region are that region and that region minus each neighbour shift.
   pub reached : {q r : ℕ} → IsRegion d q → IsRegion d r → Reaches d q r ↔ (q ∈ reachedBy d r)
-
   -- 6. Two regions, each with its neighbours, have a region in common exactly when their block coordinates differ by at most 1 on each axis.
   pub common : {p q : ℕ} → IsRegion d p → IsRegion d q → Common d p q ↔ T (nears (d .sumAxes) p q)
   -- Colour is the parity of block coordinates.
   pub parity : {i : ℕ} → IsCell d i → colour d i ≡ parities (d .sumAxes) i
   -- Two different regions of one colour have none in common.
   pub apart : {p q : ℕ} → IsRegion d p → IsRegion d q → colour d p ≡ colour d q → Common d p q → p ≡ q
-
   -- 7. The ids of a stencil differ from each other.
   pub differ : {i : ℕ} → IsCell d i → Distinct (stencilOf d i)

@@ -9,7 +9,6 @@ use Rattle.packing.specs.Mask.{Mask, count, coord, minus, Clean}
 use Rattle.packing.specs.Ids.{Dim, sum, region, cellOf, packedRegionShifts, regionNeighbours, stencilOf}
 
 infix 40 _∈_
-
 -- x stands in the list
 abbrev pub _∈_ : {A : Type 0} → A → List A → Type 0
 x ∈ l = List·Memᴰ x l

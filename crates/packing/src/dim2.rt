@@ -2,12 +2,12 @@
 ghost use mathlib.Core.Path.{_≡_};
 ghost use mathlib.Core.List.{[], _∷_};
 ghost use Rattle.packing.specs.Ids.{dim2, packedId, coordinates, sum, complement, diagonal, minusOne, minusTwo, plusFive, number, cellOf, inColour, regionNeighbours, packedShifts, packedRegionShifts, stencilOf};
-use crate::masked_add;
-use crate::region_of;
-use crate::two_complement;
-use crate::morton2;
 use crate::PACK_ALIGN;
 use crate::PACK_HEADER;
+use crate::masked_add;
+use crate::morton2;
+use crate::region_of;
+use crate::two_complement;
 
 pub const BLOCK_MX: u64 = 0x5555_5555_5555_50c0;
 

@@ -2,12 +2,12 @@
 ghost use mathlib.Core.Path.{_≡_};
 ghost use mathlib.Core.List.{[], _∷_};
 ghost use Rattle.packing.specs.Ids.{dim3, packedId, coordinates, sum, complement, diagonal, minusOne, minusTwo, plusFive, number, cellOf, inColour, regionNeighbours, packedShifts, packedRegionShifts, stencilOf};
-use crate::masked_add;
-use crate::region_of;
-use crate::two_complement;
-use crate::morton3;
 use crate::PACK_ALIGN;
 use crate::PACK_HEADER;
+use crate::masked_add;
+use crate::morton3;
+use crate::region_of;
+use crate::two_complement;
 
 pub const BLOCK_MX: u64 = 0x1249_2492_4924_90c0;
 
@@ -24,8 +24,33 @@ pub const PACKED_NEG_TWO: u64 = 18446744073709550208;
 pub const PACKED_PLUS_FIVE: u64 = 30016;
 
 pub const PACKED_NBH_SHIFTS: [u64; 27] = [
-    2688, 2176, 2432, 2560, 2048, 2304, 2624, 2112, 2368, 640, 128, 384, 512, 0, 256, 576, 64, 320, 1664, 1152, 1408,
-    1536, 1024, 1280, 1600, 1088, 1344,
+    2688,
+    2176,
+    2432,
+    2560,
+    2048,
+    2304,
+    2624,
+    2112,
+    2368,
+    640,
+    128,
+    384,
+    512,
+    0,
+    256,
+    576,
+    64,
+    320,
+    1664,
+    1152,
+    1408,
+    1536,
+    1024,
+    1280,
+    1600,
+    1088,
+    1344,
 ];
 
 pub const PACKED_NBH_REGION_SHIFTS: [u64; 7] = [16384, 8192, 24576, 4096, 20480, 12288, 28672];
@@ -44,7 +69,8 @@ pub fn pack(x: u32, y: u32, z: u32) -> u64
     let b = y as u64;
     let c = z as u64;
     ((morton3::spread(a >> 2) << PACK_HEADER) | ((a & 3) << PACK_ALIGN))
-        | (((morton3::spread(b >> 2) << 13) | ((b & 3) << 8)) | ((morton3::spread(c >> 2) << 14) | ((c & 3) << 10)))
+        | (((morton3::spread(b >> 2) << 13) | ((b & 3) << 8))
+            | ((morton3::spread(c >> 2) << 14) | ((c & 3) << 10)))
 }
 
 // The same of signed coordinates, in two's complement.

@@ -1,0 +1,24 @@
+-- `packing::dim3::pack` meets its contract: each axis is put in its place.
+-- Assumes nothing.
+use mathlib.Core.Path.{ap₂, sym, _∙_}
+use borrow.Author.Needs.{needs}
+use lib.Bits.{bitOr, or-zero-r}
+use Rattle.packing.specs.Mask.{packed}
+use Rattle.packing.specs.Ids.{dim3, packedId}
+use Rattle.packing.proofs.Placing.{put-axis}
+use Rattle.packing.proofs.Computed.{layouts3}
+use Rattle.packing.proofs.dim3.pack.Statement.{statement}
+use Rattle.packing.proofs.dim3.pack.Tie as tie
+
+returns : tie.Need-returns
+unfolding packedId dim3 packed
+returns c =
+    let s = c .before .before .before in
+    ap₂ bitOr (put-axis (layouts3 .0) (c .before .before .spread .ensures) (s .fits .x .fits))
+    (ap₂ bitOr (put-axis (layouts3 .1) (c .before .spread2 .ensures) (s .fits .y .fits))
+    (put-axis (layouts3 .2) (c .spread3 .ensures) (s .fits .z .fits) ∙ sym (or-zero-r _)))
+
+pub pack-spec : {M : Type 1} → statement M
+pack-spec =
+    tie.close (tie.spec (λ c κs. search needs) (λ c. search needs) (λ c. search needs) (λ c. search needs)
+    (λ c. search needs) (λ c κs. search needs) (λ c κs. search needs) returns)
