@@ -1,10 +1,9 @@
 -- The laws of a dimension, from tests of its masks and shifts that compute.
 -- Assumes nothing.
 use mathlib.Core.Path.{_≡_, refl, sym, ap, ap₂, _∙_, subst}
-use mathlib.Core.Bool.{Bool, true, false, _&&_, _||_, not}
-use mathlib.Core.List.{List, [], _∷_, map, map-map, List·Memᴰ, List·Memᴰ·head, List·Memᴰ·tail, List·Memᴰ·cases-cons, List·Memᴰ·not-nil, Memᴰ·cast}
-use mathlib.Core.Logic.{_⊎_, inl, inr, ⊎-elim}
-use Prim.Native.Nat.{ℕ, zero, suc, _+_, _-_, _*_, _/_, _%_, _^_, _<_, _≤_}
+use mathlib.Core.Bool.{Bool, true, _&&_, not}
+use mathlib.Core.List.{List, [], _∷_, map, List·Memᴰ·head, List·Memᴰ·tail, Memᴰ·cast}
+use Prim.Native.Nat.{ℕ, suc, _+_, _*_, _/_, _%_, _^_, _<_, _≤_}
 use native.Mathlib.Nat.{mod-lt, mod-one, pow-suc, lt-of-le-of-lt}
 use native.Mathlib.Numerals.{add-one}
 use native.Mathlib.Omega.{arith}
@@ -13,12 +12,12 @@ use lib.Dec.{T, ltb, ltb→lt, eqb, eqb-refl, T-not}
 use lib.ListN.{length}
 use lib.Pow.{pow-pos, shl-shr, shr-shr, split}
 use lib.Bits.{bitAnd, and-block, and-shr, and-zero-l, and-le-r, and-mask}
-use Rattle.packing.specs.Mask.{Mask, coords, packed, wrapped, sums, sumOf, whole, minus, Clean, negs}
+use Rattle.packing.specs.Mask.{Mask, coords, packed, wrapped, sums, whole, minus, negs, below}
 use Rattle.packing.specs.Ids.{Dim, packedId, coordinates, sum, region, number, cellOf, colour, toFours, fromFours, packedShifts, packedRegionShifts, regionNeighbours, stencilOf}
 use Rattle.packing.specs.Neighbours.{_∈_, Distinct, IsCell, IsRegion, reach, carry, Reaches, reachedBy, Common, nears, block, parities}
 use Rattle.packing.specs.Laws.{Laws}
-use Rattle.packing.proofs.Linear.{both-left, both-right, or-cases, or-left, Word, arg, _&_, _>>_, read, run, alike, same}
-use Rattle.packing.proofs.Group.{Sums, sums-of, again, back, disjoint}
+use Rattle.packing.proofs.Linear.{both-left, both-right, arg, _&_, _>>_, read, run, alike, same}
+use Rattle.packing.proofs.Group.{Sums, sums-of, again, back, back-below, sums-wrapped, disjoint}
 use Rattle.packing.proofs.Axis.{fours}
 use Rattle.packing.proofs.Shifts.{in-map, From, from-map, Each, just, just-in, just-each}
 use Rattle.packing.proofs.Regions as R
@@ -98,6 +97,9 @@ clean-region w i e =
 
 -- what is computed of its masks and shifts
 pub record Good (d : Dim) : Type 0 where
+  -- sums see the axes below this bit
+  pub bit : ℕ
+  pub sees : d .sumAxes ≡ below bit (d .axes)
   pub packs : T (disjoint (d .axes))
   pub adds : T (disjoint (d .sumAxes))
   pub cuts : T (allCut (d .sumAxes))
@@ -118,7 +120,7 @@ module _ (d : Dim) (g : Good d) where
   by-coords : {i j : ℕ} → IsCell d i → IsCell d j → coords (d .sumAxes) i ≡ coords (d .sumAxes) j → i ≡ j
   by-coords {i} {j} p q e = sym p ∙ sym (again (d .sumAxes) i) ∙ ap (packed (d .sumAxes)) e ∙ again (d .sumAxes) j ∙ q
 
-  is-packed : (cs : List ℕ) → IsCell d (packed (d .sumAxes) cs)
+  pub is-packed : (cs : List ℕ) → IsCell d (packed (d .sumAxes) cs)
   is-packed cs =
       sym (again (d .sumAxes) (packed (d .sumAxes) cs)) ∙ ap (packed (d .sumAxes)) (back (d .sumAxes) (g .adds) cs) ∙ R.packed-wrapped (d .sumAxes) cs
 
@@ -129,6 +131,16 @@ module _ (d : Dim) (g : Good d) where
   reads : (i j : ℕ) → coords (d .sumAxes) (sum d i j) ≡ sums (d .sumAxes) (coords (d .sumAxes) i) (coords (d .sumAxes) j)
   unfolding sum
   reads = group .reads
+
+  -- what sums see of a packed id
+  seen : (cs : List ℕ) → coords (d .sumAxes) (packedId d cs) ≡ wrapped (d .sumAxes) cs
+  unfolding packedId
+  seen cs =
+      subst (λ (ms : List Mask). T (disjoint ms) → coords ms (packed (d .axes) cs) ≡ wrapped ms cs) (sym (g .sees))
+      (λ t. back-below (g .bit) (d .axes) t cs) (g .adds)
+
+  adds-packed : (a b : List ℕ) → coords (d .sumAxes) (sum d (packedId d a) (packedId d b)) ≡ sums (d .sumAxes) a b
+  adds-packed a b = reads (packedId d a) (packedId d b) ∙ ap₂ (sums (d .sumAxes)) (seen a) (seen b) ∙ sums-wrapped (d .sumAxes) a b
 
   neutral : {i : ℕ} → IsCell d i → sum d i 0 ≡ i
   unfolding sum
@@ -419,6 +431,7 @@ module _ (d : Dim) (g : Good d) where
         unpacked = back (d .axes) (g .packs);
         adds = reads;
         ignores = group .stray;
+        addsPacked = adds-packed;
         closed = closed;
         assoc = assoc;
         comm = comm;

@@ -3,16 +3,16 @@
 use mathlib.Core.Path.{_≡_, refl, sym, ap, ap₂, _∙_}
 use mathlib.Core.Bool.{Bool, true, false, not}
 use mathlib.Core.List.{List, [], _∷_}
-use Prim.Native.Nat.{ℕ, zero, suc, _+_, _-_, _*_, _/_, _%_, _^_, _<_, _≤_}
-use native.Mathlib.Nat.{mod-eq-of-lt, mod-lt, pow-suc, mod-one, zero-mod, mod-mod, mod-self, mod-add-mod, add-mod-mod, add-mod, add-comm, add-assoc, le-of-lt, lt-of-lt-of-le, add-sub-of-le, add-zero}
+use Prim.Native.Nat.{ℕ, zero, suc, _+_, _-_, _*_, _/_, _%_, _^_, _<_}
+use native.Mathlib.Nat.{mod-eq-of-lt, pow-suc, mod-one, zero-mod, mod-mod, mod-self, mod-add-mod, add-mod-mod, add-mod, add-comm, add-assoc, le-of-lt, lt-of-lt-of-le, add-sub-of-le, add-zero}
 use native.Mathlib.Omega.{arith}
 use lib.Arith.{mod-mul}
 use lib.Dec.{T, leb, leb→le}
 use lib.Pow.{pow-pos, pow-mono}
-use lib.Bits.{bitAnd, bitOr, or-mod, or-zero-r, or-disjoint, and-comm, and-zero-r}
-use Rattle.packing.specs.Mask.{Mask, num, count, coord, place, hd, tl, coords, packed, wrapped, sums, negs, low, below, sumOf, minus, whole, Clean}
-use Rattle.packing.proofs.Sum.{place-mod, and-set, and-clear}
-use Rattle.packing.proofs.Linear.{both, both-left, both-right, and-or, coord-or, coord-zero, place-zero}
+use lib.Bits.{bitAnd, bitOr, or-mod, or-zero-r, and-comm, and-zero-r}
+use Rattle.packing.specs.Mask.{Mask, num, count, coord, place, hd, tl, coords, packed, wrapped, sums, negs, low, below, sumOf, minus, whole}
+use Rattle.packing.proofs.Sum.{and-set, and-clear}
+use Rattle.packing.proofs.Linear.{both, both-left, both-right, and-or, coord-or, coord-zero}
 
 -- ---- masks that share no digit, by a test that computes
 
@@ -142,7 +142,7 @@ unfolding wrapped coords
 wrapped-coords [] i = refl
 wrapped-coords (m ∷ ms) i = ap₂ _∷_ (mod-eq-of-lt (coord-lt m i)) (wrapped-coords ms i)
 
-sums-wrapped : (ms : List Mask) (a b : List ℕ) → sums ms (wrapped ms a) (wrapped ms b) ≡ sums ms a b
+pub sums-wrapped : (ms : List Mask) (a b : List ℕ) → sums ms (wrapped ms a) (wrapped ms b) ≡ sums ms a b
 unfolding wrapped sums
 sums-wrapped [] a b = refl
 sums-wrapped (m ∷ ms) a b = ap₂ _∷_ (sym (add-mod (hd a) (hd b) (2 ^ count m))) (sums-wrapped ms (tl a) (tl b))
@@ -169,7 +169,6 @@ sums-negs (m ∷ ms) i =
 pub record Sums (ms : List Mask) : Type 0 where
   pub reads : (i j : ℕ) → coords ms (sumOf ms i j) ≡ sums ms (coords ms i) (coords ms j)
   pub kept : (i : ℕ) → coords ms (bitAnd i (whole ms)) ≡ coords ms i
-  pub hom : (a b : List ℕ) → sumOf ms (packed ms a) (packed ms b) ≡ packed ms (sums ms a b)
   pub comm : (i j : ℕ) → sumOf ms i j ≡ sumOf ms j i
   pub assoc : (i j k : ℕ) → sumOf ms (sumOf ms i j) k ≡ sumOf ms i (sumOf ms j k)
   pub neutral : (i : ℕ) → sumOf ms i 0 ≡ bitAnd i (whole ms)
@@ -188,7 +187,6 @@ sums-of ms t =
     record {
       reads = read;
       kept = kept;
-      hom = λ a b. ap₂ put (back ms t a) (back ms t b) ∙ ap (packed ms) (sums-wrapped ms a b);
       comm = λ i j. ap (packed ms) (sums-comm ms (coords ms i) (coords ms j));
       assoc =
           λ i j k. ap (λ (a : List ℕ). put a (coords ms k)) (read i j)
@@ -204,30 +202,6 @@ sums-of ms t =
 -- a coordinate fits as many digits as its mask has, and so a word of k
 pub coord-fits : (k : ℕ) (m : Mask) (i : ℕ) → T (leb (count m) k) → coord m i < 2 ^ k
 coord-fits k m i t = lt-of-lt-of-le (coord-lt m i) (pow-mono (leb→le (count m) k t))
-
--- ---- an or of masks that share no digit is a sum
-
-and-apart : (l m : Mask) → T (apart l m) → (a b : ℕ) → bitAnd (place l a) (place m b) ≡ 0
-unfolding place apart
-and-apart [] m t a b = refl
-and-apart (true ∷ l) [] t a b = and-zero-r (place l (a / 2) * 2 + a % 2)
-and-apart (false ∷ l) [] t a b = and-zero-r (place l a * 2)
-and-apart (true ∷ l) (true ∷ m) t a b = absurd t
-and-apart (true ∷ l) (false ∷ m) t a b =
-    let h : (place l (a / 2) * 2 + a % 2) / 2 ≡ place l (a / 2) = omega arith in
-    and-clear (place l (a / 2) * 2 + a % 2) (place m b)
-    ∙ ap (λ (x : ℕ). x * 2) (ap (λ (x : ℕ). bitAnd x (place m b)) h ∙ and-apart l m t (a / 2) b)
-and-apart (false ∷ l) (true ∷ m) t a b =
-    let h : (place m (b / 2) * 2 + b % 2) / 2 ≡ place m (b / 2) = omega arith in
-    and-comm (place l a * 2) (place m (b / 2) * 2 + b % 2) ∙ and-clear (place m (b / 2) * 2 + b % 2) (place l a)
-    ∙ ap (λ (x : ℕ). x * 2) (ap (λ (x : ℕ). bitAnd x (place l a)) h ∙ and-comm (place m (b / 2)) (place l a) ∙ and-apart l m t a (b / 2))
-and-apart (false ∷ l) (false ∷ m) t a b =
-    let h : place l a * 2 / 2 ≡ place l a = omega arith in
-    and-clear (place l a * 2) (place m b) ∙ ap (λ (x : ℕ). x * 2) (ap (λ (x : ℕ). bitAnd x (place m b)) h ∙ and-apart l m t a b)
-
--- so an id of two axes is the sum of their places
-pub or-apart : (l m : Mask) → T (apart l m) → (a b : ℕ) → bitOr (place l a) (place m b) ≡ place l a + place m b
-or-apart l m t a b = or-disjoint (place l a) (place m b) (and-apart l m t a b)
 
 -- ---- masks cut off at a digit
 
@@ -284,11 +258,3 @@ coords-below k (m ∷ ms) i = ap₂ _∷_ (coord-low k m i) (coords-below k ms i
 pub back-below : (k : ℕ) (ms : List Mask) → T (disjoint (below k ms)) → (cs : List ℕ) → coords (below k ms) (packed ms cs) ≡ wrapped (below k ms) cs
 back-below k ms t cs =
     sym (coords-below k ms (packed ms cs)) ∙ ap (coords (below k ms)) (packed-below k ms cs) ∙ back (below k ms) t cs
-
--- and how they add such ids
-pub sum-below : (k : ℕ) (ms : List Mask) → T (disjoint (below k ms)) → (a b : List ℕ)
-    → sumOf (below k ms) (packed ms a) (packed ms b) ≡ packed (below k ms) (sums (below k ms) a b)
-unfolding sumOf
-sum-below k ms t a b =
-    ap (packed (below k ms))
-    (ap₂ (sums (below k ms)) (back-below k ms t a) (back-below k ms t b) ∙ sums-wrapped (below k ms) a b)

@@ -1,12 +1,13 @@
 -- The laws of every mask, and those of 2D and 3D, where what is left is computed of the masks and shifts.
 -- Assumes nothing.
-use mathlib.Core.Path.{_≡_, sym, ap, ap₂, _∙_, subst}
-use mathlib.Core.List.{List, [], _∷_}
+use mathlib.Core.Path.{_≡_, refl, sym, ap, ap₂, _∙_, subst}
+use mathlib.Core.List.{List}
 use Prim.Native.Nat.{ℕ, _+_, _%_, _^_, _<_}
 use native.Mathlib.Nat.{mod-eq-of-lt, mod-mod}
 use lib.Bits.{bitAnd}
-use Rattle.packing.specs.Mask.{Mask, num, count, coord, place, bits, axisSum, whole, packed}
-use Rattle.packing.specs.Ids.{dim2, dim3, packedShifts}
+use Rattle.packing.specs.Mask.{Mask, num, count, coord, place, bits, axisSum, whole, packed, below}
+use Rattle.packing.specs.Ids.{dim2, dim3, packedId, packedShifts}
+use Rattle.packing.specs.Neighbours.{IsCell}
 use Rattle.packing.specs.Laws.{OfMask, OfSum, Laws}
 use Rattle.packing.proofs.Linear.{run, alike}
 use Rattle.packing.proofs.Group.{coord-place, place-coord, coord-lt, apart, fromAll, disjoint}
@@ -14,7 +15,7 @@ use Rattle.packing.proofs.Sum.{place-mod, num-bits}
 use Rattle.packing.proofs.Axis.{cut}
 use Rattle.packing.proofs.Shifts.{just, all-in, has, same-list, grid}
 use Rattle.packing.proofs.Regions.{allCut, zeros}
-use Rattle.packing.proofs.Cells.{Good, leads, allDiffer, absent, laws-of}
+use Rattle.packing.proofs.Cells.{Good, leads, allDiffer, absent, is-packed, laws-of}
 
 pub of-mask : (m : Mask) → OfMask m
 of-mask m = record { back = coord-place m; again = place-coord m }
@@ -40,17 +41,22 @@ of-sum mask h =
     }
 
 pub good2 : Good dim2
-unfolding dim2 disjoint fromAll apart allCut cut count just all-in has same-list grid zeros leads run alike coord whole num allDiffer absent packedShifts packed place
+unfolding dim2 below disjoint fromAll apart allCut cut count just all-in has same-list grid zeros leads run alike coord whole num allDiffer absent packedShifts packed place
 good2 =
-    record { packs = tt; adds = tt; cuts = tt; stencil = tt; neighbours = tt; colours = tt; words = tt; differ = tt }
+    record { bit = 64; sees = refl; packs = tt; adds = tt; cuts = tt; stencil = tt; neighbours = tt; colours = tt; words = tt; differ = tt }
 
 pub good3 : Good dim3
-unfolding dim3 disjoint fromAll apart allCut cut count just all-in has same-list grid zeros leads run alike coord whole num allDiffer absent packedShifts packed place
+unfolding dim3 below disjoint fromAll apart allCut cut count just all-in has same-list grid zeros leads run alike coord whole num allDiffer absent packedShifts packed place
 good3 =
-    record { packs = tt; adds = tt; cuts = tt; stencil = tt; neighbours = tt; colours = tt; words = tt; differ = tt }
+    record { bit = 63; sees = refl; packs = tt; adds = tt; cuts = tt; stencil = tt; neighbours = tt; colours = tt; words = tt; differ = tt }
 
 pub laws2 : Laws dim2
 laws2 = laws-of dim2 good2
 
 pub laws3 : Laws dim3
 laws3 = laws-of dim3 good3
+
+-- in 2D, where sums see every bit that packing keeps, what is packed is a cell
+pub packed2 : (cs : List ℕ) → IsCell dim2 (packedId dim2 cs)
+unfolding dim2 packedId
+packed2 = is-packed dim2 good2

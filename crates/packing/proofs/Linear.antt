@@ -3,14 +3,14 @@
 use mathlib.Core.Path.{_≡_, refl, sym, ap, ap₂, _∙_}
 use mathlib.Core.Bool.{Bool, true, false, _&&_, _||_}
 use mathlib.Core.Logic.{_⊎_, inl, inr}
-use mathlib.Core.List.{List, [], _∷_}
-use Prim.Native.Nat.{ℕ, zero, suc, _+_, _-_, _*_, _/_, _%_, _^_, _<_, _≤_, min, max}
+use mathlib.Core.List.{[], _∷_}
+use Prim.Native.Nat.{ℕ, zero, suc, _+_, _*_, _/_, _%_, _^_, _<_, min, max}
 use native.Mathlib.Nat.{zero-div, zero-mod, zero-mul, pow-suc, mod-lt}
 use native.Mathlib.Omega.{arith}
 use lib.Arith.{bin-ind, lt-one}
 use lib.Dec.{T, eqb, eqb→eq}
 use lib.Pow.{pow-pos}
-use lib.Bits.{bitAnd, bitOr, and-step, or-step, or-shr, and-shr, or-mod, or-block, or-zero-r, or-comm, and-zero-l}
+use lib.Bits.{bitAnd, bitOr, and-step, or-step, or-shr, and-shr, or-mod, or-block, or-zero-r, or-comm}
 use Rattle.packing.specs.Mask.{Mask, coord, place}
 
 infixl 70 _&_ _>>_

@@ -1,24 +1,23 @@
 -- Regions and the numbers of their cells, over any list of masks whose axes are cut alike.
 -- Assumes nothing.
-use mathlib.Core.Path.{_≡_, refl, sym, ap, ap₂, _∙_, subst}
-use mathlib.Core.Bool.{Bool, true, false}
-use mathlib.Core.List.{List, [], _∷_, map, List·Memᴰ, List·Memᴰ·head, List·Memᴰ·tail, List·Memᴰ·cases-cons, List·Memᴰ·not-nil, Memᴰ·cast}
-use mathlib.Core.Logic.{_⊎_, inl, inr, ⊎-elim}
-use Prim.Native.Nat.{ℕ, zero, suc, _+_, _-_, _*_, _/_, _%_, _^_, _<_, _≤_}
-use native.Mathlib.Nat.{mod-eq-of-lt, mod-lt, pow-suc, mod-one, mod-mod}
+use mathlib.Core.Path.{_≡_, refl, sym, ap, ap₂, _∙_}
+use mathlib.Core.Bool.{Bool, true}
+use mathlib.Core.List.{List, [], _∷_, map, List·Memᴰ·head, List·Memᴰ·tail, List·Memᴰ·cases-cons, List·Memᴰ·not-nil, Memᴰ·cast}
+use mathlib.Core.Logic.{⊎-elim}
+use Prim.Native.Nat.{ℕ, zero, suc, _+_, _*_, _/_, _%_, _^_, _<_, _≤_}
+use native.Mathlib.Nat.{mod-eq-of-lt, pow-suc, mod-one}
 use native.Mathlib.Decide.{decLt}
 use native.Mathlib.Omega.{arith}
 use lib.Arith.{mod-mul}
 use lib.Dec.{T, leb, leb→le}
 use lib.ListN.{length}
-use lib.Pow.{pow-pos, shl-shr}
-use lib.Bits.{bitAnd, bitOr, and-block, and-shr, and-zero-l, and-le-r}
-use Rattle.packing.specs.Mask.{Mask, count, coord, coords, packed, wrapped, sums, sumOf, whole, Clean, hd, tl}
+use lib.Bits.{bitOr}
+use Rattle.packing.specs.Mask.{Mask, count, coord, coords, packed, wrapped, sums, whole, hd, tl}
 use Rattle.packing.specs.Ids.{region, fromFours, toFours}
 use Rattle.packing.specs.Neighbours.{_∈_, near, nears, block, blockCount, parities}
 use Rattle.packing.proofs.Linear.{both, both-left, both-right, and-both, place-zero, coord-zero}
 use Rattle.packing.proofs.Sum.{place-mod}
-use Rattle.packing.proofs.Group.{Sums, again, back, coord-lt, disjoint, sums-of}
+use Rattle.packing.proofs.Group.{coord-lt}
 use Rattle.packing.proofs.Axis.{cut, coord-cut, Wide, wide, floor-sum, split-sum, low-sum, Near, is-near, near-is, one-colour, fours, zero-four, meet, Moves, moves}
 use Rattle.packing.proofs.Shifts.{Each}
 
@@ -211,9 +210,6 @@ unwrapped (m ∷ ms) a vals h (c ∷ cs) e =
 
 pub four-small : (v : ℕ) → v ∈ fours → v < 8
 four-small v m = ⊎-elim (λ e. omega arith) (λ e. omega arith) (zero-four m)
-
-pub step-small : (v : ℕ) → v ∈ steps → v < 8
-step-small v m = omega (arith, step-le m)
 
 unfoldable pub zeros : List Mask → List ℕ
 zeros ms = map (λ m. 0) ms

@@ -1,6 +1,6 @@
 -- Document 01, "Ids": where the bits of the coordinates stand, sums, regions, colours, neighbours and stencils, over the axes of a dimension.
 -- Assumes nothing.
-use mathlib.Core.Bool.{Bool, true, false, _&&_, _||_}
+use mathlib.Core.Bool.{Bool, _&&_, _||_}
 use mathlib.Core.List.{List, [], _∷_, _++_, map}
 use Prim.Native.Nat.{ℕ, zero, suc, _+_, _*_, _-_, _/_, _%_, _^_}
 use lib.Dec.{eqb, leb}
@@ -29,6 +29,7 @@ pub record Dim : Type 0 where
   pub shifts : List (List ℕ)
   pub regionShifts : List (List ℕ)
 
+-- x and y keep 28 bits each
 unfoldable pub axes2 : List Mask
 unfolding axis
 axes2 = axis 6 12 2 ∷ axis 8 13 2 ∷ []

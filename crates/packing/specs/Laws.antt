@@ -1,7 +1,7 @@
 -- What holds of ids, sums, regions, colours and stencils in each dimension. Whoever stands above this crate knows its definitions by these laws alone.
 -- Assumes nothing.
 use mathlib.Core.Path.{_≡_}
-use mathlib.Core.List.{List, [], _∷_}
+use mathlib.Core.List.{List, _∷_}
 use mathlib.Core.Logic.{_↔_}
 use Prim.Native.Nat.{ℕ, _+_, _%_, _^_}
 use lib.Bits.{bitAnd}
@@ -33,6 +33,8 @@ pub record Laws (d : Dim) : Type 0 where
   -- 2. A sum adds coordinates, modulo 2 to the number of their bits, whatever stray bits its arguments have, and has none itself.
   pub adds : (i j : ℕ) → coords (d .sumAxes) (sum d i j) ≡ sums (d .sumAxes) (coords (d .sumAxes) i) (coords (d .sumAxes) j)
   pub ignores : (i j : ℕ) → sum d (bitAnd i (whole (d .sumAxes))) (bitAnd j (whole (d .sumAxes))) ≡ sum d i j
+  -- Adding two packed ids adds their coordinates.
+  pub addsPacked : (a b : List ℕ) → coords (d .sumAxes) (sum d (packedId d a) (packedId d b)) ≡ sums (d .sumAxes) a b
   -- 3. Cells are a commutative group.
   pub closed : (i j : ℕ) → IsCell d (sum d i j)
   pub assoc : (i j k : ℕ) → sum d (sum d i j) k ≡ sum d i (sum d j k)

@@ -1,13 +1,13 @@
 -- The definitions on document 01's values: where each bit goes, how many bits each axis keeps, and packing's rows of "Values to prove together".
 -- Assumes nothing.
-use mathlib.Core.Bool.{Bool, true, false, _&&_}
-use mathlib.Core.List.{List, [], _∷_, map}
+use mathlib.Core.Bool.{Bool, true, _&&_}
+use mathlib.Core.List.{[], _∷_, map}
 use mathlib.Core.Path.{_≡_, refl}
 use Prim.Native.Nat.{ℕ, zero, suc, _+_, _-_, _*_, _^_}
 use lib.Dec.{T, eqb}
-use lib.IntN.{ℤ, pos, negsuc}
-use Rattle.packing.specs.Mask.{Mask, num, count, coord, place, coords, packed, sums, sumOf, whole}
-use Rattle.packing.specs.Ids.{axis, dim2, dim3, packedId, complement, sum, diagonal, minusOne, minusTwo, plusFive, packedShifts, packedRegionShifts}
+use lib.IntN.{negsuc}
+use Rattle.packing.specs.Mask.{num, count, coord, place, coords, packed, sums, sumOf, whole}
+use Rattle.packing.specs.Ids.{axis, dim2, dim3, packedId, complement, sum}
 
 -- ---- "x bits 0 and 1 go to bits 6 and 7 ..; x bit k (2 to 27) goes to bit 12 + 2(k-2), y bit k one higher"
 
