@@ -1,12 +1,13 @@
 -- The definitions on document 01's values: where each bit goes, how many bits each axis keeps, and packing's rows of "Values to prove together".
 -- Assumes nothing.
-use mathlib.Core.Bool.{Bool, true, _&&_}
+use mathlib.Core.Bool.{Bool, true, _&&_, not}
 use mathlib.Core.List.{[], _∷_, map}
 use mathlib.Core.Path.{_≡_, refl}
 use Prim.Native.Nat.{ℕ, zero, suc, _+_, _-_, _*_, _^_}
 use lib.Dec.{T, eqb}
 use lib.IntN.{negsuc}
 use Rattle.packing.specs.Mask.{num, count, coord, place, coords, packed, sums, sumOf, whole}
+use Rattle.packing.specs.Neighbours.{blockCount, near}
 use Rattle.packing.specs.Ids.{axis, dim2, dim3, packedId, complement, sum}
 
 -- ---- "x bits 0 and 1 go to bits 6 and 7 ..; x bit k (2 to 27) goes to bit 12 + 2(k-2), y bit k one higher"
@@ -40,6 +41,16 @@ kept = (refl, refl, refl, refl)
 pub stray : (whole (dim2 .axes) ≡ 2 ^ 64 - 2 ^ 12 + (2 ^ 10 - 2 ^ 6)) × (whole (dim3 .axes) ≡ 2 ^ 64 - 2 ^ 6) × (whole (dim3 .sumAxes) ≡ 2 ^ 63 - 2 ^ 6)
 unfolding whole num dim2 dim3
 stray = (refl, refl, refl)
+
+-- 2^26 blocks on each axis, 2^17 in 3D
+pub blocks : (map blockCount (dim2 .sumAxes) ≡ 2 ^ 26 ∷ 2 ^ 26 ∷ []) × (map blockCount (dim3 .sumAxes) ≡ 2 ^ 17 ∷ 2 ^ 17 ∷ 2 ^ 17 ∷ [])
+unfolding count dim2 dim3
+blocks = (refl, refl)
+
+-- of eight blocks, the fourth and the fifth are near, and so are the first and the last; the third and the fifth are not
+pub nearby : T (near 8 3 4) × T (near 8 0 7) × T (not (near 8 2 4))
+unfolding near
+nearby = (tt, tt, tt)
 
 -- ---- the rows of the table
 

@@ -1,0 +1,4 @@
+-- Laws of the definitions in `specs/`, which the functions' proofs cite.
+pub mod Back
+pub mod Reading
+pub mod Writing
