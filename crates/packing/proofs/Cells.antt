@@ -3,13 +3,13 @@
 use mathlib.Core.Path.{_≡_, refl, sym, ap, ap₂, _∙_, subst}
 use mathlib.Core.Bool.{Bool, true, _&&_, not}
 use mathlib.Core.List.{List, [], _∷_, map, List·Memᴰ·head, List·Memᴰ·tail, Memᴰ·cast}
-use Prim.Native.Nat.{ℕ, suc, _+_, _*_, _/_, _%_, _^_, _<_, _≤_}
-use native.Mathlib.Nat.{mod-lt, mod-one, pow-suc, lt-of-le-of-lt}
+use Prim.Native.Nat.{ℕ, zero, suc, _+_, _*_, _/_, _%_, _^_, _<_, _≤_}
+use native.Mathlib.Nat.{not-suc-le-zero, le-of-suc-le-suc, mod-lt, mod-one, pow-suc, lt-of-le-of-lt}
 use native.Mathlib.Numerals.{add-one}
 use native.Mathlib.Omega.{arith}
 use lib.Arith.{mod-mul}
 use lib.Dec.{T, ltb, ltb→lt, eqb, eqb-refl, T-not}
-use lib.ListN.{length}
+use lib.ListN.{length, getD}
 use lib.Pow.{pow-pos, shl-shr, shr-shr, split}
 use lib.Bits.{bitAnd, and-block, and-shr, and-zero-l, and-le-r, and-mask}
 use Rattle.packing.specs.Mask.{Mask, coords, packed, wrapped, sums, whole, minus, negs, below}
@@ -78,6 +78,12 @@ distinct-map f (x ∷ l) h u = (
   λ m. let w = from-map f l m in u .0 (Memᴰ·cast (h x (w .at) (List·Memᴰ·head refl) (List·Memᴰ·tail (w .stands)) (w .gives)) (w .stands)),
   distinct-map f l (λ a b p q. h a b (List·Memᴰ·tail p) (List·Memᴰ·tail q)) (u .1),
 )
+
+-- what stands at a place of a mapped list
+at-map : (f : ℕ → ℕ) (l : List ℕ) (k : ℕ) → k < length l → getD (map f l) k 0 ≡ f (getD l k 0)
+at-map f [] k h = absurd (not-suc-le-zero h)
+at-map f (x ∷ l) zero h = refl
+at-map f (x ∷ l) (suc k) h = at-map f l k (le-of-suc-le-suc h)
 
 -- ---- regions as numbers
 
@@ -263,7 +269,7 @@ module _ (d : Dim) (g : Good d) where
 
   -- a region with its neighbours, as one list of sums
   reach-is : {r : ℕ} → IsCell d r → map (sum d r) (0 ∷ packedRegionShifts d) ≡ reach d r
-  unfolding reach regionNeighbours
+  unfolding regionNeighbours
   reach-is {r} p = ap (λ (x : ℕ). x ∷ map (sum d r) (packedRegionShifts d)) (neutral p)
 
   reaches : {i x : ℕ} → IsCell d i → x ∈ stencilOf d i → region x ∈ reach d (region i)
@@ -283,7 +289,6 @@ module _ (d : Dim) (g : Good d) where
       assoc r (minus (d .sumAxes) s) s ∙ ap (sum d r) (comm (minus (d .sumAxes) s) s ∙ inverse s) ∙ neutral p
 
   reached-is : {r : ℕ} → IsCell d r → map (λ s. sum d r (minus (d .sumAxes) s)) (0 ∷ packedRegionShifts d) ≡ reachedBy d r
-  unfolding reachedBy
   reached-is {r} p =
       ap (λ (x : ℕ). x ∷ map (λ s. sum d r (minus (d .sumAxes) s)) (packedRegionShifts d))
       (sym (neutral (closed r (minus (d .sumAxes) 0))) ∙ redone p 0)
@@ -422,10 +427,37 @@ module _ (d : Dim) (g : Good d) where
   stencil-differs i =
       distinct-map (sum d i) (packedShifts d) (λ s t m n e. cancel i (is-shift m) (is-shift n) e) (distinct (packedShifts d) (g .differ))
 
+  cells : (i : ℕ) {x : ℕ} → x ∈ stencilOf d i → IsCell d x
+  unfolding stencilOf
+  cells i m =
+      let w = from-map (sum d i) (packedShifts d) m in
+      subst (λ (y : ℕ). IsCell d y) (sym (w .gives)) (closed i (w .at))
+
+  -- moves to neighbours are regions
+  region-move : {x : ℕ} → x ∈ 0 ∷ packedRegionShifts d → region x ≡ x
+  region-move {x} m =
+      let v = move m in
+      let e : coords (d .sumAxes) (packed (d .sumAxes) (v .by)) ≡ v .by =
+      back (d .sumAxes) (g .adds) (v .by) ∙ R.unwrapped (d .sumAxes) axes fours R.four-small (v .by) (v .each) in
+      let f : region (packed (d .sumAxes) (v .by)) ≡ packed (d .sumAxes) (v .by) =
+      by-coords (is-region (is-packed (v .by))) (is-packed (v .by))
+      (R.floors (d .sumAxes) axes (packed (d .sumAxes) (v .by)) ∙ ap (map floor) e ∙ R.floor-moves (d .sumAxes) (v .by) (v .each) ∙ sym e) in
+      ap region (v .is) ∙ f ∙ sym (v .is)
+
+  regions : {r x : ℕ} → IsRegion d r → x ∈ reach d r → IsRegion d x
+  regions {r} {x} p m =
+      let w = from-reach (p .cell) m in
+      let e : region (sum d r (w .at)) ≡ sum d r (w .at) =
+      ap (λ (y : ℕ). region (sum d y (w .at))) (sym (p .whole)) ∙ region-sum r (w .at) ∙ ap₂ (sum d) (p .whole) (region-move (w .stands)) in
+      record {
+        cell = subst (λ (y : ℕ). IsCell d y) (sym (w .gives)) (closed r (w .at));
+        whole = ap region (w .gives) ∙ e ∙ sym (w .gives);
+      }
+
   -- ---- together
 
   pub laws-of : Laws d
-  unfolding packedId coordinates sum minus
+  unfolding packedId coordinates sum minus stencilOf
   laws-of =
       record {
         unpacked = back (d .axes) (g .packs);
@@ -448,9 +480,12 @@ module _ (d : Dim) (g : Good d) where
         carries = carries;
         carried = carried;
         reaches = reaches;
+        regions = regions;
         reached = λ p u. (back-from (p .cell) (u .cell), forth-to p (u .cell));
         common = λ u v. (common-near u v, near-common u v);
         parity = parity;
         apart = one-colour;
         differ = λ {i} p. stencil-differs i;
+        cells = cells;
+        inOrder = λ i. at-map (sum d i) (packedShifts d);
       }

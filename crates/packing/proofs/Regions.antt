@@ -195,6 +195,15 @@ floor-twos (m ∷ ms) a =
     let e : 2 % 2 ^ count m ≡ 2 = mod-eq-of-lt l in
     ap₂ _∷_ (omega (arith, coord-zero m)) (floor-twos ms (a .1))
 
+-- moves by none or one block end at a block
+pub floor-moves : (ms : List Mask) (ts : List ℕ) → Each fours ms ts → map floor ts ≡ ts
+floor-moves [] [] e = refl
+floor-moves [] (t ∷ ts) e = absurd e
+floor-moves (m ∷ ms) [] e = absurd e
+floor-moves (m ∷ ms) (t ∷ ts) e =
+    let f : floor t ≡ t = ⊎-elim (λ z. omega arith) (λ z. omega arith) (zero-four (e .0)) in
+    ap₂ _∷_ f (floor-moves ms ts (e .1))
+
 -- ---- shifts as ids
 
 -- small shifts are not wrapped

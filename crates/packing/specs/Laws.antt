@@ -3,10 +3,10 @@
 use mathlib.Core.Path.{_≡_}
 use mathlib.Core.List.{List, _∷_}
 use mathlib.Core.Logic.{_↔_}
-use Prim.Native.Nat.{ℕ, _+_, _%_, _^_}
+use Prim.Native.Nat.{ℕ, _+_, _%_, _^_, _<_}
 use lib.Bits.{bitAnd}
 use lib.Dec.{T}
-use lib.ListN.{length}
+use lib.ListN.{length, getD}
 use Rattle.packing.specs.Mask.{Mask, num, count, coord, place, bits, axisSum, coords, wrapped, sums, whole, minus}
 use Rattle.packing.specs.Ids.{Dim, packedId, coordinates, sum, region, number, cellOf, colour, packedShifts, packedRegionShifts, stencilOf}
 use Rattle.packing.specs.Neighbours.{_∈_, Distinct, IsCell, IsRegion, reach, carry, Reaches, reachedBy, Common, nears, parities}
@@ -54,6 +54,8 @@ pub record Laws (d : Dim) : Type 0 where
   pub carries : {i : ℕ} → IsCell d i → (shift : ℕ) → region (sum d i shift) ≡ sum d (region i) (carry d (number d i) shift)
   pub carried : (n : ℕ) {shift : ℕ} → shift ∈ packedShifts d → carry d n shift ∈ 0 ∷ packedRegionShifts d
   pub reaches : {i x : ℕ} → IsCell d i → x ∈ stencilOf d i → region x ∈ reach d (region i)
+  -- A region's neighbours are regions.
+  pub regions : {r x : ℕ} → IsRegion d r → x ∈ reach d r → IsRegion d x
   -- The regions whose cells' stencils can reach a region are that region and that region minus each neighbour shift.
   pub reached : {q r : ℕ} → IsRegion d q → IsRegion d r → Reaches d q r ↔ (q ∈ reachedBy d r)
   -- 6. Two regions, each with its neighbours, have a region in common exactly when their block coordinates differ by at most 1 on each axis.
@@ -64,3 +66,6 @@ pub record Laws (d : Dim) : Type 0 where
   pub apart : {p q : ℕ} → IsRegion d p → IsRegion d q → colour d p ≡ colour d q → Common d p q → p ≡ q
   -- 7. The ids of a stencil differ from each other.
   pub differ : {i : ℕ} → IsCell d i → Distinct (stencilOf d i)
+  -- They are cells, and the one at place k is the cell plus the shift at place k.
+  pub cells : (i : ℕ) {x : ℕ} → x ∈ stencilOf d i → IsCell d x
+  pub inOrder : (i k : ℕ) → k < length (packedShifts d) → getD (stencilOf d i) k 0 ≡ sum d i (getD (packedShifts d) k 0)

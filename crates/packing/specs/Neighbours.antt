@@ -27,7 +27,7 @@ pub record IsRegion (d : Dim) (r : ℕ) : Type 0 where
   pub whole : region r ≡ r
 
 -- a region with its neighbours
-unfoldable pub reach : Dim → ℕ → List ℕ
+abbrev pub reach : Dim → ℕ → List ℕ
 reach d r = r ∷ regionNeighbours d r
 
 -- by how much a shift carries the cell of this number into another region
@@ -44,7 +44,7 @@ pub record Reaches (d : Dim) (q r : ℕ) : Type 0 where
   pub into : region id ≡ r
 
 -- the region, and the region minus each shift to a neighbour
-unfoldable pub reachedBy : Dim → ℕ → List ℕ
+abbrev pub reachedBy : Dim → ℕ → List ℕ
 reachedBy d r = r ∷ map (λ s. sum d r (minus (d .sumAxes) s)) (packedRegionShifts d)
 
 -- two regions, each with its neighbours, have a region in common

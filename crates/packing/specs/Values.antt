@@ -6,9 +6,10 @@ use mathlib.Core.Path.{_≡_, refl}
 use Prim.Native.Nat.{ℕ, zero, suc, _+_, _-_, _*_, _^_}
 use lib.Dec.{T, eqb}
 use lib.IntN.{negsuc}
+use lib.ListN.{length}
 use Rattle.packing.specs.Mask.{num, count, coord, place, coords, packed, sums, sumOf, whole}
 use Rattle.packing.specs.Neighbours.{blockCount, near}
-use Rattle.packing.specs.Ids.{axis, dim2, dim3, packedId, complement, sum}
+use Rattle.packing.specs.Ids.{axis, dim2, dim3, packedId, complement, sum, packedShifts, packedRegionShifts}
 
 -- ---- "x bits 0 and 1 go to bits 6 and 7 ..; x bit k (2 to 27) goes to bit 12 + 2(k-2), y bit k one higher"
 
@@ -46,6 +47,11 @@ stray = (refl, refl, refl)
 pub blocks : (map blockCount (dim2 .sumAxes) ≡ 2 ^ 26 ∷ 2 ^ 26 ∷ []) × (map blockCount (dim3 .sumAxes) ≡ 2 ^ 17 ∷ 2 ^ 17 ∷ 2 ^ 17 ∷ [])
 unfolding count dim2 dim3
 blocks = (refl, refl)
+
+-- 9 and 27 cells in a stencil, 3 and 7 neighbours of a region
+pub counts : (length (packedShifts dim2) ≡ 9) × (length (packedShifts dim3) ≡ 27) × (length (packedRegionShifts dim2) ≡ 3) × (length (packedRegionShifts dim3) ≡ 7)
+unfolding packedShifts packedRegionShifts dim2 dim3
+counts = (refl, refl, refl, refl)
 
 -- of eight blocks, the fourth and the fifth are near, and so are the first and the last; the third and the fifth are not
 pub nearby : T (near 8 3 4) × T (near 8 0 7) × T (not (near 8 2 4))
