@@ -1,5 +1,5 @@
 -- With what is left of n spelled before i, the list is, at each turn, the one asked for.
-use Prim.Native.Nat.{_+_, _-_, _≤_}
+use Prim.Native.Nat.{_-_, _≤_}
 use mathlib.Core.Path.{_≡_, refl, sym, _∙_}
 use mathlib.Core.List.{_++_}
 use native.Mathlib.Nat.{mod-lt}
