@@ -1,5 +1,6 @@
 -- `packing::dim2::is_in_region_with_color` meets its contract: the colour is the region's digits from 12 on, one for each axis.
 -- Assumes nothing.
+use native.Mathlib.Omega.{arith}
 use borrow.Author.Needs.{needs}
 use Rattle.packing.specs.Ids.{dim2, colour, inColour}
 use Rattle.packing.proofs.Fields.{out-of-range, in-range}
@@ -8,11 +9,11 @@ use Rattle.packing.proofs.dim2.is_in_region_with_color.Tie as tie
 
 returns : tie.Need-returns
 unfolding inColour colour dim2
-returns c = out-of-range 2 _ _ (c .if1 .taken)
+returns c = let a = c .before .args in out-of-range 2 (a .region-id) (a .color) (omega arith)
 
 returns-2 : tie.Need-returns-2
 unfolding inColour colour dim2
-returns-2 c = in-range 2 _ _ (c .if1 .left) tt
+returns-2 c = let a = c .before .args in in-range 2 (a .region-id) (a .color) (omega arith) tt
 
 pub is-in-region-with-color-spec : {M : Type 1} → statement M
 is-in-region-with-color-spec = tie.close (tie.spec returns (λ c. search needs) (λ c. search needs) returns-2)

@@ -21,7 +21,7 @@ loop-holds c = record { is = refl }
 
 loop-again : tie.Need-loop-again Inv-loop μ-loop
 unfolding packedRegionShifts dim2 packed place
-loop-again c = filled-more (c .before .before .loop .inv) (c .before .loop-test .taken) (c .packed-add .ensures)
+loop-again c = filled-more (c .before .before .loop .inv) (omega arith) (c .packed-add .ensures)
 
 returns : tie.Need-returns Inv-loop μ-loop
 unfolding regionNeighbours packedRegionShifts dim2

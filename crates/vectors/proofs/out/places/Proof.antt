@@ -17,7 +17,7 @@ loop-holds : tie.Need-loop-holds Inv-loop μ-loop
 loop-holds c = (omega arith, let e : c .args .n + 1 - 1 ≡ c .args .n = omega arith in rw e)
 
 loop-again : tie.Need-loop-again Inv-loop μ-loop
-loop-again c = (omega arith, omega (arith, places-more (c .before .before .args .n) (c .before .loop .k) (c .before .loop .rest) (c .loop-test .taken) (c .before .loop .inv .0)))
+loop-again c = (omega arith, omega (arith, places-more (c .before .before .args .n) (c .before .loop .k) (c .before .loop .rest) (omega arith) (c .before .loop .inv .0)))
 
 returns : tie.Need-returns Inv-loop μ-loop
 returns c = omega (arith, places-one (c .before .before .args .n + 1 - c .before .loop .k) (c .before .loop .rest) (c .loop-test .left))
