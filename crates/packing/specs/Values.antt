@@ -4,12 +4,13 @@ use mathlib.Core.Bool.{Bool, true, _&&_, not}
 use mathlib.Core.List.{[], _∷_, map}
 use mathlib.Core.Path.{_≡_, refl}
 use Prim.Native.Nat.{ℕ, zero, suc, _+_, _-_, _*_, _^_}
+use native.Mathlib.Omega.{arith}
 use lib.Dec.{T, eqb}
 use lib.IntN.{negsuc}
 use lib.ListN.{length}
 use Rattle.packing.specs.Mask.{num, count, coord, place, coords, packed, sums, sumOf, whole}
-use Rattle.packing.specs.Neighbours.{blockCount, near}
-use Rattle.packing.specs.Ids.{axis, dim2, dim3, packedId, complement, sum, packedShifts, packedRegionShifts}
+use Rattle.packing.specs.Neighbours.{IsCell, IsRegion, blockCount, near}
+use Rattle.packing.specs.Ids.{axis, dim2, dim3, packedId, complement, sum, region, packedShifts, packedRegionShifts}
 
 -- ---- "x bits 0 and 1 go to bits 6 and 7 ..; x bit k (2 to 27) goes to bit 12 + 2(k-2), y bit k one higher"
 
@@ -57,6 +58,12 @@ counts = (refl, refl, refl, refl)
 pub nearby : T (near 8 3 4) × T (near 8 0 7) × T (not (near 8 2 4))
 unfolding near
 nearby = (tt, tt, tt)
+
+-- (2,2) is a cell and no region, (4,4) is a region; an id with bit 0 set is no cell, nor in 3D one with bit 63 set
+pub cells : IsCell dim2 640 × (region 640 ≡ 640 → ⊥) × IsRegion dim2 12288 × (IsCell dim2 641 → ⊥) × IsRegion dim3 28672 × (IsCell dim3 (2 ^ 63) → ⊥)
+unfolding whole num dim2 dim3 region
+cells =
+    (refl, λ e. omega (arith, e), record { cell = refl; whole = refl }, λ e. omega (arith, e), record { cell = refl; whole = refl }, λ e. omega (arith, e))
 
 -- ---- the rows of the table
 

@@ -455,9 +455,10 @@ mod tests {
     }
 
     #[test]
-    fn the_3d_spreading_sends_bit_16_to_bit_60_as_well() {
+    fn the_3d_spreading_sends_bit_16_to_bit_60_as_well_and_loses_bit_20() {
         assert_eq!(sparkl3d::utils::morton_encode3(1 << 15, 0, 0), 1 << 45);
         assert_eq!(sparkl3d::utils::morton_encode3(1 << 16, 0, 0), 1 << 48 | 1 << 60);
+        assert_eq!(sparkl3d::utils::morton_encode3(1 << 20, 0, 0), 0);
     }
 
     #[test]
