@@ -1,0 +1,9 @@
+pub mod Patterns
+pub mod Units
+pub mod Whole
+pub mod Cast
+pub mod Signs
+pub mod Squares
+pub mod RootLaws
+pub mod Nearest
+pub mod Meaning

@@ -1,0 +1,7 @@
+pub mod Bits
+pub mod Round
+pub mod Root
+pub mod Scalar
+pub mod Kernel
+pub mod Meaning
+pub mod Values
