@@ -24,16 +24,6 @@ struct Kinds {
     third: u8,
 }
 
-pub fn is_comment(s: &[u8], from: usize, to: usize) -> bool {
-    if s.len() <= from {
-        return false;
-    }
-    if to <= from {
-        return false;
-    }
-    s[from] == b'#'
-}
-
 // The question of the bytes of s from `from` up to `to`.
 pub fn read(s: &[u8], from: usize, to: usize) -> Question {
     if s.len() < to {

@@ -1,9 +1,12 @@
 -- The definitions of `Read` and `Write` at work, on bytes: `0` is 48, `A` is 65, a tab is 9. Assumes nothing.
-use Prim.Native.Nat.{_-_, _^_}
+use Prim.Native.Nat.{ℕ, _-_, _^_}
 use mathlib.Core.Path.{_≡_, refl}
+use mathlib.Core.Bool.{true, false}
 use mathlib.Core.List.{[], _∷_}
+use lib.ListN.{length}
+use lib.Seq.{slice}
 use lib.IntN.{pos, negsuc}
-use Rattle.vectors.specs.Read.{before, placeOf, digitOf, onward, bounded, numberOf, hexOf, decimalOf, readIn, signedOf}
+use Rattle.vectors.specs.Read.{before, placeOf, beginsWith, digitOf, onward, bounded, numberOf, hexOf, decimalOf, readIn, signedOf}
 use Rattle.vectors.specs.Write.{glyphOf, digitsOf, placesOf, textOf, putAt, placeAfter}
 use Rattle.vectors.specs.declared.Number.the-variants.{Is, Bad}
 
@@ -35,6 +38,11 @@ fields :
 unfolding placeOf before readIn decimalOf numberOf bounded onward digitOf
 fields = (refl, refl, refl, refl, refl)
 
+-- "#a", "a#", and nothing, which begins with no byte
+beginnings : (beginsWith 35 (35 ∷ 97 ∷ []) ≡ true) × (beginsWith 35 (97 ∷ 35 ∷ []) ≡ false) × (beginsWith 35 [] ≡ false)
+unfolding beginsWith
+beginnings = (refl, refl, refl)
+
 signs : (signedOf 1 ≡ pos 1) × (signedOf (2 ^ 32 - 1) ≡ negsuc 0) × (signedOf (2 ^ 31) ≡ negsuc (2 ^ 31 - 1))
 unfolding signedOf
 signs = (refl, refl, refl)
@@ -46,3 +54,10 @@ texts :
     × (putAt (1 ∷ 2 ∷ 3 ∷ []) 2 (textOf 10) ≡ 1 ∷ 2 ∷ 3 ∷ []) × (placeAfter (1 ∷ 2 ∷ 3 ∷ []) 2 (textOf 10) ≡ 2)
 unfolding putAt placeAfter textOf placesOf digitsOf glyphOf
 texts = (refl, refl, refl, refl, refl, refl, refl)
+
+-- "abc" with its part from 1 up to 3 moved to the front, and with one from 2 up to beyond its end
+moves :
+    (putAt (97 ∷ 98 ∷ 99 ∷ []) 0 (slice 1 3 (97 ∷ 98 ∷ 99 ∷ [])) ≡ 98 ∷ 99 ∷ 99 ∷ [])
+    × (putAt (97 ∷ 98 ∷ 99 ∷ []) 0 (slice 2 9 (97 ∷ 98 ∷ 99 ∷ [])) ≡ 99 ∷ 98 ∷ 99 ∷ []) × (length {A = ℕ} (slice 2 9 (97 ∷ 98 ∷ 99 ∷ [])) ≡ 1)
+unfolding putAt
+moves = (refl, refl, refl)

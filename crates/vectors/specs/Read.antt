@@ -1,6 +1,6 @@
 -- What is read of a line of vectors: a place, a number. Assumes nothing.
 use Prim.Native.Nat.{ℕ, suc, _+_, _-_, _*_, _^_, min}
-use mathlib.Core.Bool.{cond}
+use mathlib.Core.Bool.{Bool, false, cond}
 use mathlib.Core.List.{List, [], _∷_}
 use lib.ListN.{length, drop}
 use lib.Seq.{slice}
@@ -17,6 +17,11 @@ before b (x ∷ xs) = cond (eqb x b) 0 (suc (before b xs))
 -- the place of the first b of a list at or after `at`, or the list's length
 unfoldable pub placeOf : ℕ → ℕ → List ℕ → ℕ
 placeOf b at xs = min at (length xs) + before b (drop at xs)
+
+-- whether the first element of a list is b
+unfoldable pub beginsWith : ℕ → List ℕ → Bool
+beginsWith b [] = false
+beginsWith b (x ∷ xs) = eqb x b
 
 -- the value of a byte as a digit, `0` to `9` and `A` to `F`, and 16 for any other byte
 unfoldable pub digitOf : ℕ → ℕ

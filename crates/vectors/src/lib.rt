@@ -1,6 +1,7 @@
 // Reads and writes the fields of lines of vectors: whole numbers in upper case hexadecimal with a
 // fixed count of digits, and plain decimals. Every function takes any arguments and says exactly
 // what it answers, by the definitions of `specs/`.
+pub mod lines;
 pub mod out;
 
 ghost use mathlib.Core.Path.{_≡_};

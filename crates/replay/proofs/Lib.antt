@@ -1,0 +1,2 @@
+-- The laws that belong to no function of `src/`.
+pub mod Feed
