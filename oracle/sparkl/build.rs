@@ -13,6 +13,8 @@ const FILES: &[(&str, Option<&str>)] = &[
     ("src/geometry/sp_grid.rs", Some("sp_grid.rs")),
     ("src/utils/morton2.rs", None),
     ("src/utils/morton3.rs", None),
+    ("src/utils/physics.rs", None),
+    ("src_core/dynamics/solver/kernel.rs", None),
 ];
 
 fn main() {

@@ -11,12 +11,17 @@ extern crate self as na;
 mod stand_ins;
 
 pub(crate) use stand_ins::vector;
-pub use stand_ins::{from_bytes, from_bytes_mut, math, MmapMut, Pod, Result};
+pub use stand_ins::{from_bytes, from_bytes_mut, math, MmapMut, Pod, Result, SMatrix};
 
 // The handed-over text is not ours to tidy.
 #[allow(warnings, clippy::all)]
 pub mod geometry {
     include!(concat!(env!("OUT_DIR"), "/src/geometry/mod.rs"));
+}
+
+#[allow(warnings, clippy::all)]
+pub mod kernel {
+    include!(concat!(env!("OUT_DIR"), "/src_core/dynamics/solver/kernel.rs"));
 }
 
 #[allow(warnings, clippy::all)]

@@ -1,7 +1,8 @@
 //! The least of the missing crates that the handed-over files need in order to compile and to mean what they mean there.
 
 use std::fmt;
-use std::ops::{Deref, DerefMut};
+use std::marker::PhantomData;
+use std::ops::{Add, Deref, DerefMut, Mul, Sub};
 
 /// For `log::info!`: its arguments are looked at by the compiler and then dropped.
 macro_rules! info {
@@ -29,9 +30,15 @@ pub(crate) use vector;
 
 /// For `parry::math`.
 pub mod math {
-    use std::ops::{Div, Mul};
+    use std::ops::{Div, Mul, Neg, Sub};
 
     pub type Real = f32;
+    pub type Matrix<T> = super::SMatrix<T, DIM, DIM>;
+
+    #[cfg(feature = "dim2")]
+    pub const DIM: usize = 2;
+    #[cfg(feature = "dim3")]
+    pub const DIM: usize = 3;
 
     #[derive(Copy, Clone, Debug, PartialEq)]
     pub struct Vector<T> {
@@ -94,12 +101,103 @@ pub mod math {
         }
     }
 
+    impl Div<Real> for Vector<Real> {
+        type Output = Self;
+
+        fn div(self, divisor: Real) -> Self {
+            self.map(|part| part / divisor)
+        }
+    }
+
     impl Div<Real> for &Vector<Real> {
         type Output = Vector<Real>;
 
         fn div(self, divisor: Real) -> Vector<Real> {
-            self.map(|part| part / divisor)
+            *self / divisor
         }
+    }
+
+    impl Neg for Vector<Real> {
+        type Output = Self;
+
+        fn neg(self) -> Self {
+            self.map(|part| -part)
+        }
+    }
+
+    impl Sub for Vector<Real> {
+        type Output = Self;
+
+        fn sub(self, other: Self) -> Self {
+            Vector {
+                x: self.x - other.x,
+                y: self.y - other.y,
+                #[cfg(feature = "dim3")]
+                z: self.z - other.z,
+            }
+        }
+    }
+
+    /// No matrix has a value here, so nothing is ever taken apart.
+    pub struct DecomposedTensor {
+        pub deviatoric_part: Matrix<Real>,
+    }
+
+    impl DecomposedTensor {
+        pub fn decompose(tensor: &Matrix<Real>) -> Self {
+            tensor.never()
+        }
+    }
+}
+
+/// For `nalgebra::SMatrix`: `physics.rs` names it in functions that nothing here asks, so there is no value of it.
+pub struct SMatrix<T, const R: usize, const C: usize>(Never, PhantomData<T>);
+
+enum Never {}
+
+impl<T, const R: usize, const C: usize> SMatrix<T, R, C> {
+    fn never(&self) -> ! {
+        match self.0 {}
+    }
+
+    pub fn zip_map(&self, _: &Self, _: impl FnMut(T, T) -> T) -> Self {
+        self.never()
+    }
+
+    pub fn min(&self) -> T {
+        self.never()
+    }
+
+    pub fn trace(&self) -> T {
+        self.never()
+    }
+
+    pub fn transpose(&self) -> Self {
+        self.never()
+    }
+}
+
+impl<T, const R: usize, const C: usize> Add<SMatrix<T, R, C>> for &SMatrix<T, R, C> {
+    type Output = SMatrix<T, R, C>;
+
+    fn add(self, _: SMatrix<T, R, C>) -> SMatrix<T, R, C> {
+        self.never()
+    }
+}
+
+impl<T, const R: usize, const C: usize> Sub<SMatrix<T, R, C>> for &SMatrix<T, R, C> {
+    type Output = SMatrix<T, R, C>;
+
+    fn sub(self, _: SMatrix<T, R, C>) -> SMatrix<T, R, C> {
+        self.never()
+    }
+}
+
+impl<T, const R: usize, const C: usize> Mul<T> for SMatrix<T, R, C> {
+    type Output = Self;
+
+    fn mul(self, _: T) -> Self {
+        self.never()
     }
 }
 

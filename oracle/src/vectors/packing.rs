@@ -4,7 +4,7 @@
 //! mask, `k` from its `unpack`, `l` from its region mask, `pack` and `packed_add`, `s` from its `packed_add` and its table of
 //! shifts, `f` from its `packed_add` and its constant.
 
-use super::{bits, decimal, digests, hex, Sheet};
+use super::{decimal, hex, word, Sheet};
 use crate::rng::{Rng, SEED};
 use sparkl2d::geometry::way_in as rust2;
 use sparkl3d::geometry::way_in as rust3;
@@ -107,7 +107,7 @@ fn sums_by_mask() -> Vec<(u64, Sum)> {
 }
 
 pub fn make() -> Sheet {
-    let mut sheet = Sheet::with_header(&header());
+    let mut sheet = Sheet::titled("Packing", &SOURCES, &LEGEND);
     let mut rng = Rng::new(SEED);
     for rust in [rust_2d(), rust_3d()] {
         packs(&mut sheet, &rust, &mut rng);
@@ -121,17 +121,6 @@ pub fn make() -> Sheet {
     regions(&mut sheet, &mut rng);
     masked_sums(&mut sheet, &mut rng);
     sheet
-}
-
-fn header() -> Vec<String> {
-    let mut lines = vec![
-        "Packing vectors: questions (stdin) and the answers of the handed-over Rust to them (stdout), line by line.".to_string(),
-        "Made by `oracle write`, held against the Rust by `oracle check`; not to be edited by hand.".to_string(),
-        format!("seed {}", hex(SEED)),
-    ];
-    lines.extend(digests(&sparkl2d::sources(), &SOURCES));
-    lines.extend(LEGEND.iter().map(|line| line.to_string()));
-    lines
 }
 
 const LEGEND: [&str; 13] = [
@@ -228,7 +217,7 @@ fn signed_packs(sheet: &mut Sheet, rust: &Rust, rng: &mut Rng) {
     cells.extend(signed(random_cells(rust.axes, 80, rng)));
     for cell in cells {
         let answer = hex((rust.packi)(&cell));
-        sheet.row(&operation('i', rust), cell.iter().map(|part| bits(*part)).collect(), vec![answer]);
+        sheet.row(&operation('i', rust), cell.iter().map(|part| word(*part as u32)).collect(), vec![answer]);
     }
 }
 
@@ -425,7 +414,7 @@ fn hexes(ids: Vec<u64>) -> Vec<String> {
 #[cfg(test)]
 mod tests {
     use super::*;
-    use std::collections::BTreeMap;
+    use crate::vectors::format::counts;
 
     const NEG_ONE_2D: u64 = 18446744073709548480;
     const NEG_ONE_3D: u64 = 18446744073709551552;
@@ -481,14 +470,6 @@ mod tests {
     #[test]
     fn both_dimensions_are_built_from_the_same_text() {
         assert_eq!(sparkl2d::sources(), sparkl3d::sources());
-        assert!(SOURCES.iter().all(|name| sparkl2d::sources().iter().any(|(path, _)| path == name)));
-    }
-
-    #[test]
-    fn one_seed_makes_one_sheet() {
-        let (first, second) = (make(), make());
-        assert_eq!(first.questions, second.questions);
-        assert_eq!(first.answers, second.answers);
     }
 
     /// The kinds of a question's fields and of its answer's, with the numbers of them that differ between 2D and 3D left open.
@@ -522,40 +503,19 @@ mod tests {
         }
     }
 
-    fn is_of_kind(field: &str, kind: char) -> bool {
-        let upper_hex = field.chars().all(|c| c.is_ascii_digit() || ('A'..='F').contains(&c));
-        match kind {
-            'H' => field.len() == 16 && upper_hex,
-            'W' => field.len() == 8 && upper_hex,
-            _ => field.parse::<u64>().map_or(false, |number| number.to_string() == field),
-        }
-    }
-
-    fn assert_kinds(line: &str, fields: &[&str], kinds: &str, operation: &str) {
-        let kinds = match kinds.strip_suffix("..") {
+    fn expanded(kinds: &str, operation: &str) -> String {
+        match kinds.strip_suffix("..") {
             Some(kind) => kind.repeat(many(operation)),
             None => kinds.to_string(),
-        };
-        assert_eq!(fields.len(), kinds.len(), "{}", line);
-        assert!(fields.iter().zip(kinds.chars()).all(|(field, kind)| is_of_kind(field, kind)), "{}", line);
+        }
     }
 
     #[test]
     fn every_line_is_of_the_format_and_every_operation_is_asked() {
-        let sheet = make();
-        let mut counts = BTreeMap::new();
-        assert_eq!(sheet.questions.lines().count(), sheet.answers.lines().count());
-        for (question, answer) in sheet.questions.lines().zip(sheet.answers.lines()) {
-            if question.starts_with('#') {
-                assert_eq!(question, answer);
-                continue;
-            }
-            let fields: Vec<&str> = question.split('\t').collect();
-            let (_, asks, says) = KINDS.iter().find(|(letter, ..)| fields[0].starts_with(letter)).unwrap();
-            assert_kinds(question, &fields[1..], asks, fields[0]);
-            assert_kinds(answer, &answer.split('\t').collect::<Vec<_>>(), says, fields[0]);
-            *counts.entry(fields[0].to_string()).or_insert(0) += 1;
-        }
+        let counts = counts(&make(), |operation| {
+            let (_, asks, says) = KINDS.iter().find(|(letter, ..)| operation.starts_with(letter)).unwrap();
+            (expanded(asks, operation), expanded(says, operation))
+        });
         assert_eq!(counts.len(), 2 * 14 + 2);
         assert!(counts.values().sum::<usize>() >= 5000);
     }
