@@ -1,0 +1,99 @@
+/* Calls every function of mangerknot.h from C; the status is 1 where an answer is not the one expected. The Rust tests ask more. */
+#include "mangerknot.h"
+
+#include <math.h>
+#include <stdio.h>
+
+static int wrong = 0;
+
+static void expect(int right, const char *what) {
+    if (!right) {
+        printf("calls.c: wrong: %s\n", what);
+        wrong = 1;
+    }
+}
+
+#define EXPECT(what) expect(what, #what)
+
+static void ids_in_2d(void) {
+    const uint64_t cell = 12608;
+    mk_cell2 at = mk_unpack2(cell);
+    EXPECT(mk_pack2(5, 5) == cell);
+    EXPECT(mk_packi2(-1, -1) == UINT64_C(18446744073709548480));
+    EXPECT(at.x == 5 && at.y == 5);
+    EXPECT(mk_packed_add2(UINT64_C(18446744073709548480), cell) == 12288);
+    EXPECT(mk_shift_cell_neg_one2(cell) == mk_pack2(4, 4));
+    EXPECT(mk_shift_cell_neg_two2(cell) == mk_pack2(3, 3));
+    EXPECT(mk_shift_cell_plus_five2(cell) == mk_pack2(10, 10));
+    EXPECT(mk_number_in_region2(cell) == 5);
+    EXPECT(mk_cell_of_region2(cell, 6) == mk_pack2(6, 5));
+    EXPECT(mk_is_in_region_with_color2(cell, 3) == 1);
+    EXPECT(mk_is_in_region_with_color2(cell, 2) == 0);
+    EXPECT(mk_region_neighbors2(0).ids[2] == mk_pack2(4, 0));
+    EXPECT(mk_nbh_shifts2().ids[8] == mk_pack2(1, 1));
+    EXPECT(mk_nbh_region_shifts2().ids[0] == mk_pack2(0, 4));
+    EXPECT(mk_stencil_ids2(cell).ids[1] == mk_pack2(7, 5));
+}
+
+static void ids_in_3d(void) {
+    const uint64_t cell = 28672;
+    mk_cell3 at = mk_unpack3(cell);
+    EXPECT(mk_pack3(4, 4, 4) == cell);
+    EXPECT(mk_packi3(-1, -1, -1) == UINT64_C(18446744073709551552));
+    EXPECT(at.x == 4 && at.y == 4 && at.z == 4);
+    EXPECT(mk_packed_add3(UINT64_C(18446744073709551552), 0) == UINT64_C(9223372036854775744));
+    EXPECT(mk_shift_cell_neg_one3(cell) == mk_pack3(3, 3, 3));
+    EXPECT(mk_shift_cell_neg_two3(cell) == mk_pack3(2, 2, 2));
+    EXPECT(mk_shift_cell_plus_five3(cell) == mk_pack3(9, 9, 9));
+    EXPECT(mk_number_in_region3(mk_pack3(4, 5, 6)) == 36);
+    EXPECT(mk_cell_of_region3(cell, 36) == mk_pack3(4, 5, 6));
+    EXPECT(mk_is_in_region_with_color3(cell, 7) == 1);
+    EXPECT(mk_is_in_region_with_color3(cell, 8) == 0);
+    EXPECT(mk_region_neighbors3(0).ids[0] == mk_pack3(0, 0, 4));
+    EXPECT(mk_nbh_shifts3().ids[26] == mk_pack3(1, 1, 1));
+    EXPECT(mk_nbh_region_shifts3().ids[6] == cell);
+    EXPECT(mk_stencil_ids3(cell).ids[13] == cell);
+    EXPECT(mk_masked_add(0xff, 0x1ff, 2) == 1);
+    EXPECT(mk_region_of(12608) == 12288);
+}
+
+static void floats(void) {
+    mk_weights weights = mk_eval_all(1.0f);
+    EXPECT(mk_to_bits(1.0f) == 0x3f800000);
+    EXPECT(mk_to_bits(NAN) == 0x7fc00000);
+    EXPECT(mk_from_bits(0xbf800000) == -1.0f);
+    EXPECT(isnan(mk_from_bits(0xff800001)));
+    EXPECT(mk_round(2.5f) == 3.0f);
+    EXPECT(signbit(mk_round(-0.25f)));
+    EXPECT(mk_to_u32(2.75f) == 2);
+    EXPECT(mk_from_u32(16777217) == 16777216.0f);
+    EXPECT(mk_root(2.25f) == 1.5f);
+    EXPECT(mk_inv_exact(0.0f) == 0.0f);
+    EXPECT(mk_max(NAN, -1.0f) == -1.0f);
+    EXPECT(mk_abs(-2.0f) == 2.0f);
+    EXPECT(mk_signum(-0.0f) == -1.0f);
+    EXPECT(mk_inv_d(0.5f) == 16.0f);
+    EXPECT(weights.weights[0] == 0.125f && weights.weights[1] == 0.75f && weights.weights[2] == 0.125f);
+    EXPECT(mk_eval(1.0f) == 0.125f);
+    EXPECT(mk_eval_derivative(0.25f) == -0.5f);
+}
+
+static void plane(void) {
+    const mk_vector2 way = {0.5f, -2.0f};
+    const mk_point2 node = {3.5f, 1.0f}, particle = {3.0f, 3.0f};
+    mk_weights2 weights = mk_precompute_weights2(way, 2.0f);
+    mk_vector2 along = mk_stencil_gradient_with_dir2(way, 2.0f), between = mk_stencil_gradient2(node, particle, 2.0f);
+    EXPECT(weights.x[2] == 0.28125f && weights.y[0] == 0.125f && weights.y[1] == 0.75f);
+    EXPECT(mk_stencil_with_dir2(way, 2.0f) == 0.0859375f);
+    EXPECT(mk_stencil2(node, particle, 2.0f) == 0.0859375f);
+    EXPECT(along.x == 0.03125f && along.y == -0.171875f);
+    EXPECT(between.x == along.x && between.y == along.y);
+}
+
+int main(void) {
+    ids_in_2d();
+    ids_in_3d();
+    floats();
+    plane();
+    return wrong;
+}

@@ -1,0 +1,129 @@
+/*
+ * Mangerknot's functions for C and for whatever calls C. Link target/staticlib/libboundary.a, which is for x86-64 Linux.
+ *
+ * Every function takes any input, ends, and writes no memory of the caller's; what it answers is proved (docs/CLAIMS.md).
+ * Numbers and structs cross by value. A flag crosses as a uint32_t, 0 or 1.
+ *
+ * Pointers: no function takes one today. Where one will, nobody can check behind the call that it is valid and aligned for its
+ * length and overlaps no other: that is for the caller to see to. The compiler passes the place of a long answer by a pointer of
+ * its own making, which is right where the caller includes this file.
+ *
+ * Floats: every NaN is taken, and an answered NaN may have any NaN's pattern; mk_to_bits gives every NaN the pattern 7FC00000.
+ * The gate compares this file with the functions' source and with the archive's symbols (.ci/header).
+ */
+#ifndef MANGERKNOT_H
+#define MANGERKNOT_H
+
+#include <stdint.h>
+
+#ifdef __cplusplus
+extern "C" {
+#endif
+
+/* ---- Ids of the cells of a sparse grid, in 2D and 3D ---- */
+
+/* A cell's coordinates. */
+typedef struct { uint32_t x; uint32_t y; } mk_cell2;
+typedef struct { uint32_t x; uint32_t y; uint32_t z; } mk_cell3;
+
+/* Lists of ids, of the length in their name. */
+typedef struct { uint64_t ids[3]; } mk_ids3;
+typedef struct { uint64_t ids[7]; } mk_ids7;
+typedef struct { uint64_t ids[9]; } mk_ids9;
+typedef struct { uint64_t ids[27]; } mk_ids27;
+
+/* The sum of the coordinates that mask marks in i and j; all other bits are 0. */
+uint64_t mk_masked_add(uint64_t mask, uint64_t i, uint64_t j);
+/* The region of a cell: its id with the low 12 bits zero. */
+uint64_t mk_region_of(uint64_t cell_id);
+
+/* The id of the cell at x, y (and z); packi takes two's complement. */
+uint64_t mk_pack2(uint32_t x, uint32_t y);
+uint64_t mk_pack3(uint32_t x, uint32_t y, uint32_t z);
+uint64_t mk_packi2(int32_t x, int32_t y);
+uint64_t mk_packi3(int32_t x, int32_t y, int32_t z);
+/* The coordinates of an id, whatever its stray bits. */
+mk_cell2 mk_unpack2(uint64_t xy);
+mk_cell3 mk_unpack3(uint64_t xyz);
+/* The id of the sum of two cells; stray bits are ignored and answered 0. */
+uint64_t mk_packed_add2(uint64_t i, uint64_t j);
+uint64_t mk_packed_add3(uint64_t i, uint64_t j);
+/* The cell plus -1, -2 or 5 on every axis. */
+uint64_t mk_shift_cell_neg_one2(uint64_t cell_id);
+uint64_t mk_shift_cell_neg_one3(uint64_t cell_id);
+uint64_t mk_shift_cell_neg_two2(uint64_t cell_id);
+uint64_t mk_shift_cell_neg_two3(uint64_t cell_id);
+uint64_t mk_shift_cell_plus_five2(uint64_t cell_id);
+uint64_t mk_shift_cell_plus_five3(uint64_t cell_id);
+/* The number of a cell in its region: 4 y + x, in 3D 16 z more. */
+uint64_t mk_number_in_region2(uint64_t cell_id);
+uint64_t mk_number_in_region3(uint64_t cell_id);
+/* The cell of a region by its number, modulo 16 in 2D and 64 in 3D. */
+uint64_t mk_cell_of_region2(uint64_t region_id, uint64_t number);
+uint64_t mk_cell_of_region3(uint64_t region_id, uint64_t number);
+/* 1 where the region has the colour, 0 where not; colours are 0 to 3 in 2D and 0 to 7 in 3D. */
+uint32_t mk_is_in_region_with_color2(uint64_t region_id, uint64_t color);
+uint32_t mk_is_in_region_with_color3(uint64_t region_id, uint64_t color);
+/* The regions, other than its own, that a region's stencils reach. */
+mk_ids3 mk_region_neighbors2(uint64_t region_id);
+mk_ids7 mk_region_neighbors3(uint64_t region_id);
+/* The packed shifts from a cell to the cells of its stencil, in order. */
+mk_ids9 mk_nbh_shifts2(void);
+mk_ids27 mk_nbh_shifts3(void);
+/* The packed shifts from a region to its neighbours, in order. */
+mk_ids3 mk_nbh_region_shifts2(void);
+mk_ids7 mk_nbh_region_shifts3(void);
+/* The ids of a cell's stencil, in order. */
+mk_ids9 mk_stencil_ids2(uint64_t cell_id);
+mk_ids27 mk_stencil_ids3(uint64_t cell_id);
+
+/* ---- Float rules and the kernel ---- */
+
+/* A vector and a point of the plane. */
+typedef struct { float x; float y; } mk_vector2;
+typedef struct { float x; float y; } mk_point2;
+
+/* The weights of three nodes in a row, and of those of each axis of the plane. */
+typedef struct { float weights[3]; } mk_weights;
+typedef struct { float x[3]; float y[3]; } mk_weights2;
+
+/* The 32 bits of x, and back; every NaN has the pattern 7FC00000. */
+uint32_t mk_to_bits(float x);
+float mk_from_bits(uint32_t b);
+/* The nearest whole number, halves away from zero, with x's sign; infinities and NaN answer themselves. */
+float mk_round(float x);
+/* x without its fraction, to the nearest end of the range; 0 for a NaN. */
+uint32_t mk_to_u32(float x);
+/* The float nearest to n, ties to even. */
+float mk_from_u32(uint32_t n);
+/* The float nearest to the root of x; both zeros answer themselves, a NaN and what is below zero a NaN. */
+float mk_root(float x);
+/* 1 / e, and 0 for a zero. */
+float mk_inv_exact(float e);
+/* The larger; the number if one side is a NaN; +0 of two zeros. */
+float mk_max(float a, float b);
+/* x without its sign. */
+float mk_abs(float x);
+/* 1 with x's sign, also of a zero; a NaN for a NaN. */
+float mk_signum(float x);
+/* 4 / cell_width^2. */
+float mk_inv_d(float cell_width);
+/* The weights of the three nodes around a point that lies x beyond the first of them, in cells. */
+mk_weights mk_eval_all(float x);
+/* The weight of a node at the distance x, in cells, and its derivative there. */
+float mk_eval(float x);
+float mk_eval_derivative(float x);
+/* The weights of each axis, for a particle whose first node lies at this vector from it. */
+mk_weights2 mk_precompute_weights2(mk_vector2 ref_elt_pos_minus_particle_pos, float h);
+/* The weight of a node that lies at this vector from a particle; or of a node and a particle at two points. */
+float mk_stencil_with_dir2(mk_vector2 elt_pos_minus_particle_pos, float h);
+float mk_stencil2(mk_point2 elt_pos, mk_point2 particle_pos, float h);
+/* The gradient of that weight. */
+mk_vector2 mk_stencil_gradient_with_dir2(mk_vector2 elt_pos_minus_particle_pos, float h);
+mk_vector2 mk_stencil_gradient2(mk_point2 elt_pos, mk_point2 particle_pos, float h);
+
+#ifdef __cplusplus
+}
+#endif
+
+#endif
