@@ -3,7 +3,7 @@ use mathlib.Core.Path.{_≡_, sym, ap, _∙_, subst}
 use mathlib.Core.Logic.{_⊎_, inl, inr}
 use mathlib.Core.Bool.{Bool, true, false, not}
 use Prim.Native.Nat.{ℕ, zero, suc, _+_, _-_, _*_, _/_, _%_, _^_, _≤_, _<_}
-use native.Mathlib.Nat.{mul-one, zero-mul, mul-assoc, mul-mul-mul-comm, mul-pos, mul-le-mul, mul-lt-mul-of-pos-right, eq-of-mul-eq-mul-right, add-comm, add-mul, lt-irrefl, le-refl, le-of-eq, le-of-lt, le-trans, le-of-suc-le-suc, lt-of-lt-of-le, lt-of-le-of-lt, not-le-of-lt, lt-of-not-le}
+use native.Mathlib.Nat.{add-zero, sub-le, eq-zero-or-pos, zero-lt-suc, mul-one, zero-mul, mul-assoc, mul-mul-mul-comm, mul-pos, mul-le-mul, mul-lt-mul-of-pos-right, eq-of-mul-eq-mul-right, add-comm, add-mul, lt-irrefl, le-refl, le-of-eq, le-of-lt, le-trans, le-of-suc-le-suc, lt-of-lt-of-le, lt-of-le-of-lt, not-le-of-lt, lt-of-not-le}
 use native.Mathlib.Numerals.{add-one-le}
 use native.Mathlib.Omega.{arith}
 use lib.Dec.{T, leb, leb→le, nleb→lt, lit<, lit≤}
@@ -203,12 +203,20 @@ module _ (x : Float) (u : ℕ) (F : T (fits binary32 x)) (P : 0 < u) (v : HasVal
   against : (P : ℕ → Type 0) → ((q j : ℕ) → q < 16777216 → P (q * 2 ^ j)) → (z : Float) (w : ℕ) → T (fits binary32 z) → HasValue z false w (2 ^ 149) → P w
   against P f z w G h = let Z = units-of z false w (2 ^ 149) G h in subst P (counted z w Z h) (f (Z .q) (Z .j) (Z .few))
 
+  -- half of y lies below the root, by way of +0
+  half : N .units-y * N .units-y < 4 * (u * 2 ^ 149)
+  half = elim (eq-zero-or-pos (N .units-y)) [
+    | inl e ↦ rw e (mul-pos (zero-lt-suc 3) (mul-pos P (pow-pos 149)))
+    | inr p ↦ subst (λ (n : ℕ). n * n < 4 * (u * 2 ^ 149)) (add-zero (N .units-y)) (N .nearest 0 0 (zero-lt-suc _) .1 p)
+  ]
+
   pub nearest-root : NearestRoot u (rootOf x)
   nearest-root = record {
     units = N .units-y;
     is = N .is;
     above = against (λ (w : ℕ). N .units-y < w → 4 * (u * 2 ^ 149) < (N .units-y + w) * (N .units-y + w)) (λ q j Q. N .nearest q j Q .0);
     below = against (λ (w : ℕ). w < N .units-y → (N .units-y + w) * (N .units-y + w) < 4 * (u * 2 ^ 149)) (λ q j Q. N .nearest q j Q .1);
+    negative = λ z w G h. lt-of-le-of-lt (square-le (sub-le (N .units-y) w)) half;
   }
 
 -- of two nearest f32 neither is below the other, since their middle cannot lie on both sides of the root

@@ -1,6 +1,6 @@
 -- What `roundAway` and `rootOf` have to mean, in whole numbers alone. `proofs/Meaning.antt` proves it of every f32. Definitions only.
 -- `HasValue x s a c` says that x is finite, has the sign s, true below zero, and is a / c in size; `fits binary32 x` that x is an f32.
-use mathlib.Core.Bool.{Bool, false, cond, Bool·beq, not}
+use mathlib.Core.Bool.{Bool, true, false, cond, Bool·beq, not}
 use mathlib.Core.Path.{_≡_}
 use Prim.Native.Nat.{ℕ, _+_, _-_, _*_, _^_, _≤_, _<_}
 use lib.Dec.{T}
@@ -21,13 +21,14 @@ pub record NearestWhole (s : Bool) (n d : ℕ) (y : Float) : Type 0 where
   pub nearest : (t : Bool) (j : ℕ) → apart s n s (whole * d) ≤ apart s n t (j * d)
   pub away : (t : Bool) (j : ℕ) → apart s n t (j * d) ≡ apart s n s (whole * d) → j ≤ whole
 
--- "The f32 nearest the exact root", of an x that is u times 2 ^ -149. The middle of y and any other f32 z, from +0 on, lies beyond the root: y is v and z is w times 2 ^ -149,
--- and the square of their middle is compared with x. (A z below zero is further from the root than +0 is.)
+-- "The f32 nearest the exact root", of an x that is u times 2 ^ -149: the middle of y and any other f32 z lies beyond the root, so the root is nearer to y. In units of 2 ^ -149
+-- twice that middle is the sum of y's units and z's, and its square is compared with four times x's. Where z is below zero, the middle is below zero or their difference's half.
 pub record NearestRoot (u : ℕ) (y : Float) : Type 0 where
   pub units : ℕ
   pub is : HasValue y false units (2 ^ 149)
   pub above : (z : Float) (w : ℕ) → T (fits binary32 z) → HasValue z false w (2 ^ 149) → units < w → 4 * (u * 2 ^ 149) < (units + w) * (units + w)
   pub below : (z : Float) (w : ℕ) → T (fits binary32 z) → HasValue z false w (2 ^ 149) → w < units → (units + w) * (units + w) < 4 * (u * 2 ^ 149)
+  pub negative : (z : Float) (w : ℕ) → T (fits binary32 z) → HasValue z true w (2 ^ 149) → (units - w) * (units - w) < 4 * (u * 2 ^ 149)
 
 pub record Meaning : Type 1 where
   -- every finite f32 is a number of 2 ^ -149

@@ -30,7 +30,7 @@ AllRight [] = T true
 AllRight (r ∷ rs) = Right r × AllRight rs
 
 infixr 30 _&_
-abbrev pub _&_ : {A B : Type 0} → A → B → A × B
+abbrev _&_ : {A B : Type 0} → A → B → A × B
 a & b = (a, b)
 
 -- the document's column, by kind
