@@ -96,7 +96,7 @@ float mk_round(float x);
 uint32_t mk_to_u32(float x);
 /* The float nearest to n, ties to even. */
 float mk_from_u32(uint32_t n);
-/* The float nearest to the root of x; both zeros answer themselves, a NaN and what is below zero a NaN. */
+/* The float nearest to the root of x; both zeros and the infinity answer themselves, a NaN and what is below zero a NaN. */
 float mk_root(float x);
 /* 1 / e, and 0 for a zero. */
 float mk_inv_exact(float e);
