@@ -1,0 +1,5 @@
+pub mod Rows
+pub mod Records
+pub mod Hits
+pub mod Refusals
+pub mod Instances
