@@ -1,0 +1,5 @@
+pub mod Answers
+pub mod Lengths
+pub mod Settings
+pub mod Emptying
+pub mod Passing
