@@ -16,6 +16,15 @@ pub struct Point {
     pub y: f32,
 }
 
+// By rows: m01 stands in row 0, column 1.
+#[repr(C)]
+pub struct Matrix {
+    pub m00: f32,
+    pub m01: f32,
+    pub m10: f32,
+    pub m11: f32,
+}
+
 // The weights of the three nodes of each axis, for a particle whose first node lies at this vector from it.
 pub fn precompute_weights(ref_elt_pos_minus_particle_pos: Vector, h: f32) -> [[f32; 3]; 2]
     ensures { λ r. ⌜ r ≡ precomputeWeights («ref_elt_pos_minus_particle_pos» .x ∷ «ref_elt_pos_minus_particle_pos» .y ∷ []) h ⌝ }

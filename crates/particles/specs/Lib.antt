@@ -1,0 +1,3 @@
+pub mod Particles
+pub mod Table
+pub mod Values

@@ -1,0 +1,128 @@
+-- Document 01, "Numbers a call answers": the conditions of the table that look at particles, in its order, and the check of the calls whose particles stand in listed
+-- regions. Definitions, and what is proved of them.
+-- Assumes nothing.
+use mathlib.Core.Path.{_≡_}
+use mathlib.Core.Bool.{Bool, true, false, _&&_, not}
+use mathlib.Core.List.{List, [], _∷_}
+use Prim.Native.Nat.{ℕ, _+_, _*_, _≤_, _<_}
+use lib.ListN.{length, getD}
+use lib.Dec.{eqb, leb}
+use lib.Ieee.{Float, binary32, le, ofBits}
+use Rattle.laws.specs.Store.{Store}
+use Rattle.packing.specs.Ids.{dim2, region, stencilOf}
+use Rattle.numeric.specs.Bits.{one}
+use Rattle.cells.specs.Cells.{nearest, cellAssociatedToPoint, regionAssociatedToPoint}
+use Rattle.cells.specs.Lookup.{lookup}
+use Rattle.cells.specs.declared.Found.{Found}
+use Rattle.cells.specs.declared.Found.the-variants.{At, Absent}
+use Rattle.grid.specs.Answers.{refuse, first, firstOf}
+use Rattle.grid.specs.Table.{all, finite, regionIds, Regions, startOf, countOf, cover, Covers}
+use Rattle.grid.specs.declared.Answer.{Answer}
+use Rattle.grid.specs.declared.Rule.{Rule}
+use Rattle.grid.specs.declared.Rule.the-variants.{Length, Limit, Setting, Code, NotFinite, RegionIds, Cover, OffGrid, OutOfRegion, Unlisted}
+use Rattle.particles.specs.Particles.{particleFloats, particleWords, particleForm, particleAt, positionOf}
+use Rattle.particles.specs.declared.particle.Particle.{Particle}
+
+-- 1: each slice has its own records, all of one size
+abbrev pub particleLengths : ℕ → ℕ → ℕ → List (ℕ × ℕ)
+particleLengths particles pf pw = (pf, particles * particleFloats) ∷ (pw, particles * particleWords) ∷ []
+
+-- ---- 4: a flag out of range
+
+abbrev pub isFlag : ℕ → Bool
+isFlag w = leb w 1
+
+unfoldable pub badFlag : Particle → Bool
+badFlag q = not (all isFlag (particleForm .wordsOf q))
+
+-- ---- 5: a non-finite number
+
+unfoldable pub notFinite : Particle → Bool
+notFinite q = not (all finite (particleForm .floatsOf q))
+
+-- ---- 8: r below 1 or above 65,535 on an axis
+
+abbrev pub greatestCoordinate : Float
+greatestCoordinate = ofBits binary32 0x477fff00
+
+unfoldable pub onAxis : Float → Float → Bool
+onAxis h x = le one (nearest h x) && le (nearest h x) greatestCoordinate
+
+unfoldable pub offGrid : Float → Particle → Bool
+offGrid h q = not (all (onAxis h) (positionOf q))
+
+-- ---- 9: a particle's cell is not in its region
+
+unfoldable pub outOfRegion : Float → ℕ → Particle → Bool
+outOfRegion h r q = not (eqb (regionAssociatedToPoint dim2 h (positionOf q)) r)
+
+-- ---- 10: a particle's stencil region is not listed
+
+abbrev pub isAt : Found → Bool
+isAt (At k) = true
+isAt Absent = false
+
+abbrev pub listed : List ℕ → ℕ → Bool
+listed ids i = isAt (lookup ids (region i))
+
+unfoldable pub unlisted : Float → List ℕ → Particle → Bool
+unlisted h ids q = not (all (listed ids) (stencilOf dim2 (cellAssociatedToPoint dim2 h (positionOf q))))
+
+-- ---- the first particle that a rule refuses
+
+-- whether a rule refuses a particle of the region r
+unfoldable pub judged : Rule → Float → List ℕ → ℕ → Particle → Bool
+judged Length h ids r q = false
+judged Limit h ids r q = false
+judged Setting h ids r q = false
+judged Code h ids r q = badFlag q
+judged NotFinite h ids r q = notFinite q
+judged RegionIds h ids r q = false
+judged Cover h ids r q = false
+judged OffGrid h ids r q = offGrid h q
+judged OutOfRegion h ids r q = outOfRegion h r q
+judged Unlisted h ids r q = unlisted h ids q
+
+-- of the n particles from p on, with its index
+unfoldable pub firstParticle : Rule → Float → List ℕ → ℕ → Store → ℕ → ℕ → Answer
+firstParticle rule h ids r s p n = firstOf (λ k. refuse (judged rule h ids r (particleAt s k)) rule k) p n
+
+-- of each region's particles, region by region
+unfoldable pub outOfRegions : Float → List ℕ → List ℕ → Store → Answer
+outOfRegions h ids ranges s = firstOf (λ r. firstParticle OutOfRegion h ids (getD ids r 0) s (startOf ranges r) (countOf ranges r)) 0 (length ids)
+
+-- ---- a call's particles, in the order of the table
+
+-- 6 to 10: where the regions and the particles stand
+unfoldable pub placed : Float → List ℕ → List ℕ → Store → ℕ → Answer
+placed h ids ranges s n =
+    first (
+    regionIds ids
+    ∷ cover (length ids) ranges n
+    ∷ firstParticle OffGrid h ids 0 s 0 n
+    ∷ outOfRegions h ids ranges s
+    ∷ firstParticle Unlisted h ids 0 s 0 n
+    ∷ []
+    )
+
+-- 4 to 10
+unfoldable pub checked : Float → List ℕ → List ℕ → Store → ℕ → Answer
+checked h ids ranges s n =
+    first (
+    firstParticle Code h ids 0 s 0 n
+    ∷ firstParticle NotFinite h ids 0 s 0 n
+    ∷ placed h ids ranges s n
+    ∷ []
+    )
+
+-- ---- what is proved where nothing is refused: what a stage may build on
+
+pub record Accepted (h : Float) (ids ranges : List ℕ) (s : Store) (n : ℕ) : Type 0 where
+  pub flags : (p : ℕ) → p < n → all isFlag (particleForm .wordsOf (particleAt s p)) ≡ true
+  pub numbers : (p : ℕ) → p < n → all finite (particleForm .floatsOf (particleAt s p)) ≡ true
+  pub regions : Regions ids
+  pub covers : Covers (length ids) ranges n
+  pub on-grid : (p : ℕ) → p < n → all (onAxis h) (positionOf (particleAt s p)) ≡ true
+  pub in-region : (r : ℕ) → r < length ids → (p : ℕ) → startOf ranges r ≤ p → p < startOf ranges r + countOf ranges r
+      → regionAssociatedToPoint dim2 h (positionOf (particleAt s p)) ≡ getD ids r 0
+  pub stencils : (p : ℕ) → p < n → all (listed ids) (stencilOf dim2 (cellAssociatedToPoint dim2 h (positionOf (particleAt s p)))) ≡ true

@@ -1,0 +1,243 @@
+// The numbers of the table that look at particles, and those of a call whose particles stand in listed regions.
+ghost use mathlib.Core.Path.{_≡_};
+ghost use mathlib.Core.List.{[], _∷_};
+ghost use Prim.Native.Nat.{_+_, _*_, _≤_};
+ghost use lib.ListN.{length};
+ghost use Rattle.laws.specs.Store.{store};
+ghost use Rattle.packing.specs.Ids.{dim2};
+ghost use Rattle.grid.specs.Table.{all, matches, finite, rangeWords, Covers};
+ghost use Rattle.particles.specs.Particles.{particleFloats, particleWords};
+ghost use Rattle.particles.specs.Table.{particleLengths, badFlag, notFinite, onAxis, offGrid, outOfRegion, listed, unlisted, judged, firstParticle, outOfRegions, placed, checked};
+use crate::inner::read_particle;
+use crate::particle::PARTICLE_FLOATS;
+use crate::particle::PARTICLE_WORDS;
+use crate::particle::Particle;
+use cells::Found;
+use grid::Answer;
+use grid::Rule;
+use grid::inner::RANGE_WORDS;
+use grid::inner::check_cover;
+use grid::inner::check_regions;
+use grid::inner::fits;
+use grid::inner::is_finite;
+use grid::inner::is_finite_vector;
+use numeric::dim2::Matrix;
+use numeric::dim2::Vector;
+
+// Whether slices of these lengths hold so many particles.
+pub fn holds_particles(particles: usize, pf: usize, pw: usize) -> bool
+    ensures { λ r. ⌜ r ≡ matches (particleLengths particles pf pw) ⌝ }
+{
+    fits(pf, particles, PARTICLE_FLOATS) & fits(pw, particles, PARTICLE_WORDS)
+}
+
+// Numbers 4 to 10 of a call that takes particles in listed regions.
+pub fn check_particles(
+    h: f32,
+    ids: &[u64],
+    ranges: &[u64],
+    pf: &[f32],
+    pw: &[u32],
+    particles: usize,
+) -> Answer
+    requires { ⌜ (length (now ids) * rangeWords ≤ length (now ranges)) × (particles * particleFloats ≤ length (now pf)) × (particles * particleWords ≤ length (now pw)) ⌝ }
+    ensures { λ a. ⌜ a ≡ checked h (now (ids .entry)) (now (ranges .entry)) (store (now (pf .entry)) (now (pw .entry))) particles ⌝ }
+{
+    let a = first_particle(Rule::Code, h, ids, 0, pf, pw, 0, particles);
+    let Answer::Done = a else {
+        return a;
+    };
+    let b = first_particle(Rule::NotFinite, h, ids, 0, pf, pw, 0, particles);
+    let Answer::Done = b else {
+        return b;
+    };
+    check_places(h, ids, ranges, pf, pw, particles)
+}
+
+// Numbers 6 to 10: where the regions and the particles stand.
+pub fn check_places(
+    h: f32,
+    ids: &[u64],
+    ranges: &[u64],
+    pf: &[f32],
+    pw: &[u32],
+    particles: usize,
+) -> Answer
+    requires { ⌜ (length (now ids) * rangeWords ≤ length (now ranges)) × (particles * particleFloats ≤ length (now pf)) × (particles * particleWords ≤ length (now pw)) ⌝ }
+    ensures { λ a. ⌜ a ≡ placed h (now (ids .entry)) (now (ranges .entry)) (store (now (pf .entry)) (now (pw .entry))) particles ⌝ }
+{
+    let a = check_regions(ids);
+    let Answer::Done = a else {
+        return a;
+    };
+    let b = check_cover(ids.len(), ranges, particles as u64);
+    let Answer::Done = b else {
+        return b;
+    };
+    let c = first_particle(Rule::OffGrid, h, ids, 0, pf, pw, 0, particles);
+    let Answer::Done = c else {
+        return c;
+    };
+    let d = check_in_regions(h, ids, ranges, pf, pw, particles);
+    let Answer::Done = d else {
+        return d;
+    };
+    first_particle(Rule::Unlisted, h, ids, 0, pf, pw, 0, particles)
+}
+
+// The first particle whose cell is not in its region, region by region.
+fn check_in_regions(
+    h: f32,
+    ids: &[u64],
+    ranges: &[u64],
+    pf: &[f32],
+    pw: &[u32],
+    particles: usize,
+) -> Answer
+    requires { ⌜ (length (now ids) * rangeWords ≤ length (now ranges)) × Covers (length (now ids)) (now ranges) particles
+        × (particles * particleFloats ≤ length (now pf)) × (particles * particleWords ≤ length (now pw)) ⌝ }
+    ensures { λ a. ⌜ a ≡ outOfRegions h (now (ids .entry)) (now (ranges .entry)) (store (now (pf .entry)) (now (pw .entry))) ⌝ }
+{
+    let mut r = 0;
+    while r < ids.len() {
+        let start = ranges[r * RANGE_WORDS] as usize;
+        let count = ranges[r * RANGE_WORDS + 1] as usize;
+        let a = first_particle(Rule::OutOfRegion, h, ids, ids[r], pf, pw, start, count);
+        let Answer::Done = a else {
+            return a;
+        };
+        r += 1;
+    }
+    Answer::Done
+}
+
+// The first of `count` particles from `start` on that a rule refuses.
+pub fn first_particle(
+    rule: Rule,
+    h: f32,
+    ids: &[u64],
+    region: u64,
+    pf: &[f32],
+    pw: &[u32],
+    start: usize,
+    count: usize,
+) -> Answer
+    requires { ⌜ ((start + count) * particleFloats ≤ length (now pf)) × ((start + count) * particleWords ≤ length (now pw)) ⌝ }
+    ensures { λ a. ⌜ a ≡ firstParticle rule h (now (ids .entry)) region (store (now (pf .entry)) (now (pw .entry))) start count ⌝ }
+{
+    let mut left = count;
+    while 0 < left {
+        let p = start + count - left;
+        if is_refused(rule, h, ids, region, read_particle(pf, pw, p)) {
+            return Answer::Refused(rule, p);
+        }
+        left -= 1;
+    }
+    Answer::Done
+}
+
+// Whether a rule refuses a particle; rules that look at something else refuse none.
+pub fn is_refused(rule: Rule, h: f32, ids: &[u64], region: u64, q: Particle) -> bool
+    ensures { λ r. ⌜ r ≡ judged rule h (now (ids .entry)) region q ⌝ }
+{
+    match rule {
+        Rule::Code => has_bad_flag(q),
+        Rule::NotFinite => is_not_finite(q),
+        Rule::OffGrid => is_off_grid(h, q),
+        Rule::OutOfRegion => is_out_of_region(h, region, q),
+        Rule::Unlisted => is_unlisted(h, ids, q),
+        _ => false,
+    }
+}
+
+fn has_bad_flag(q: Particle) -> bool
+    ensures { λ r. ⌜ r ≡ badFlag q ⌝ }
+{
+    !((q.failed <= 1) & ((q.kinematic <= 1) & ((q.fluid <= 1) & (q.is_static <= 1))))
+}
+
+fn is_not_finite(q: Particle) -> bool
+    ensures { λ r. ⌜ r ≡ notFinite q ⌝ }
+{
+    let position = Vector {
+        x: q.position.x,
+        y: q.position.y,
+    };
+    !(is_finite_vector(position)
+        & (is_finite_vector(q.velocity)
+            & (is_finite_matrix(q.velocity_gradient)
+                & (is_finite_matrix(q.stress)
+                    & (is_finite_body(q)
+                        & (is_finite_matrix(q.deformation_gradient)
+                            & (is_finite_crack(q) & is_finite_vector(q.kinematic_vel))))))))
+}
+
+fn is_finite_body(q: Particle) -> bool
+    ensures { λ r. ⌜ r ≡ all finite (q .mass ∷ q .volume0 ∷ q .phase ∷ q .«crack_propagation_factor» ∷ q .«psi_pos» ∷ []) ⌝ }
+{
+    is_finite(q.mass)
+        & (is_finite(q.volume0)
+            & (is_finite(q.phase) & (is_finite(q.crack_propagation_factor) & is_finite(q.psi_pos))))
+}
+
+fn is_finite_crack(q: Particle) -> bool
+    ensures { λ r. ⌜ r ≡ all finite (q .«crack_threshold» ∷ q .parameter1 ∷ q .parameter2 ∷ []) ⌝ }
+{
+    is_finite(q.crack_threshold) & (is_finite(q.parameter1) & is_finite(q.parameter2))
+}
+
+fn is_finite_matrix(m: Matrix) -> bool
+    ensures { λ r. ⌜ r ≡ all finite (m .m00 ∷ m .m01 ∷ m .m10 ∷ m .m11 ∷ []) ⌝ }
+{
+    is_finite(m.m00) & (is_finite(m.m01) & (is_finite(m.m10) & is_finite(m.m11)))
+}
+
+fn is_off_grid(h: f32, q: Particle) -> bool
+    ensures { λ r. ⌜ r ≡ offGrid h q ⌝ }
+{
+    !(is_on_axis(h, q.position.x) & is_on_axis(h, q.position.y))
+}
+
+fn is_on_axis(h: f32, x: f32) -> bool
+    ensures { λ r. ⌜ r ≡ onAxis h x ⌝ }
+{
+    let r = numeric::round(x / h);
+    (1.0 <= r) & (r <= 65535.0)
+}
+
+fn is_out_of_region(h: f32, region: u64, q: Particle) -> bool
+    ensures { λ r. ⌜ r ≡ outOfRegion h region q ⌝ }
+{
+    cells::dim2::region_associated_to_point(h, q.position) != region
+}
+
+// Whether a region of the particle's stencil is not in the list.
+fn is_unlisted(h: f32, ids: &[u64], q: Particle) -> bool
+    ensures { λ r. ⌜ r ≡ unlisted h (now (ids .entry)) q ⌝ }
+{
+    let stencil = packing::dim2::stencil(cells::dim2::cell_associated_to_point(h, q.position));
+    !are_listed(ids, &stencil)
+}
+
+// Whether the region of each cell is in the list.
+fn are_listed(ids: &[u64], cell_ids: &[u64]) -> bool
+    ensures { λ r. ⌜ r ≡ all (listed (now (ids .entry))) (now («cell_ids» .entry)) ⌝ }
+{
+    let mut k = 0;
+    while k < cell_ids.len() {
+        if !is_listed(ids, cell_ids[k]) {
+            return false;
+        }
+        k += 1;
+    }
+    true
+}
+
+fn is_listed(ids: &[u64], cell_id: u64) -> bool
+    ensures { λ r. ⌜ r ≡ listed (now (ids .entry)) «cell_id» ⌝ }
+{
+    let Found::At(_) = cells::lookup(ids, packing::region_of(cell_id)) else {
+        return false;
+    };
+    true
+}
