@@ -1,19 +1,23 @@
 /*
  * Mangerknot's functions for C and for whatever calls C. Link target/staticlib/libboundary.a, which is for x86-64 Linux.
  *
- * Every function takes any input, ends, and writes no memory of the caller's; what it answers is proved (docs/CLAIMS.md).
+ * Every function takes any input and ends; what it answers, and what it leaves in memory that it is lent, is proved (docs/CLAIMS.md).
  * Numbers and structs cross by value. A flag crosses as a uint32_t, 0 or 1.
  *
- * Pointers: no function takes one today. Where one will, nobody can check behind the call that it is valid and aligned for its
- * length and overlaps no other: that is for the caller to see to. The compiler passes the place of a long answer by a pointer of
- * its own making, which is right where the caller includes this file.
+ * Pointers: behind each stands the count of the entries (not bytes) that it points to; it may be NULL only with a count of 0. A
+ * function stays within those entries and keeps no pointer. Only mk_clear2 writes to any, and only where it answers 0. That a
+ * pointer is valid and aligned for so many entries, and that entries which are written (those without const) overlap no others of
+ * the same call, nobody can check behind the call: it is for the caller to see to. The compiler passes the place of a long answer
+ * by a pointer of its own making, which is right where the caller includes this file.
  *
- * Floats: every NaN is taken, and an answered NaN may have any NaN's pattern; mk_to_bits gives every NaN the pattern 7FC00000.
+ * Floats: every NaN is taken, and an answered NaN may have any NaN's pattern; mk_to_bits gives every NaN the pattern 7FC00000. Lent
+ * NaNs keep their patterns where a call refuses: that is tested and not proved.
  * The gate compares this file with the functions' source and with the archive's symbols (.ci/header).
  */
 #ifndef MANGERKNOT_H
 #define MANGERKNOT_H
 
+#include <stddef.h>
 #include <stdint.h>
 
 #ifdef __cplusplus
@@ -121,6 +125,39 @@ float mk_stencil2(mk_point2 elt_pos, mk_point2 particle_pos, float h);
 /* The gradient of that weight. */
 mk_vector2 mk_stencil_gradient_with_dir2(mk_vector2 elt_pos_minus_particle_pos, float h);
 mk_vector2 mk_stencil_gradient2(mk_point2 elt_pos, mk_point2 particle_pos, float h);
+
+/* ---- Cells of points, and nodes in lent memory ---- */
+
+/* Where an id stands in a list: found is 1 and place its place, or both are 0. */
+typedef struct { uint32_t found; size_t place; } mk_found_place;
+
+/*
+ * Whether a call was refused: 0 and 0 where it was done, else the number of a rule and the index of the first record that breaks
+ * it (0 for 1 and 2). Of several rules that are broken the least is answered, and then nothing was written.
+ *   1  a length does not match its count
+ *   2  a count is over its limit: 512 regions
+ *   6  region ids do not strictly ascend (of such a pair, the later one), or have one of their low 12 bits set
+ */
+typedef struct { uint32_t number; size_t index; } mk_refusal;
+
+/* The centre of the cell that is nearest to a point. */
+mk_point2 mk_cell_pos_closest_to_point2(float cell_width, mk_point2 pt);
+/* The id of that cell; a coordinate is 0 where it is below 0 or a NaN, and at most 2^32 - 1, of which an id keeps 28 bits. */
+uint64_t mk_cell_at_point2(float cell_width, mk_point2 pt);
+/* The id of the first cell of a point's stencil, one less on each axis (of 0, the last one), and the region of that cell. */
+uint64_t mk_cell_associated_to_point2(float cell_width, mk_point2 pt);
+uint64_t mk_region_associated_to_point2(float cell_width, mk_point2 pt);
+/* The centre of a cell, whatever stray bits its id has. */
+mk_point2 mk_cell_center2(float cell_width, uint64_t cell_id);
+/* The place of an id in a list that strictly ascends. In any other list it may not be found; what is found stands there. */
+mk_found_place mk_lookup(const uint64_t *ids, size_t ids_len, uint64_t id);
+/*
+ * Every node of every listed region becomes all +0, flag off. A region has 16 nodes, by the cell's number in it, and regions lie in
+ * the order of their ids. A node has 7 floats (mass; momentum x, y; velocity x, y; psi momentum; psi mass) and one word, its flag:
+ * so ids has as many entries as there are regions, node_floats 112 times and node_words 16 times as many. Refuses 1, 2 and 6.
+ */
+mk_refusal mk_clear2(size_t regions, const uint64_t *ids, size_t ids_len, float *node_floats, size_t node_floats_len,
+                     uint32_t *node_words, size_t node_words_len);
 
 #ifdef __cplusplus
 }

@@ -3,6 +3,7 @@
 
 #include <math.h>
 #include <stdio.h>
+#include <string.h>
 
 static int wrong = 0;
 
@@ -90,10 +91,55 @@ static void plane(void) {
     EXPECT(between.x == along.x && between.y == along.y);
 }
 
+static void cells(void) {
+    const mk_point2 at = {3.2f, 4.9f};
+    mk_point2 nearest = mk_cell_pos_closest_to_point2(0.5f, at), centre = mk_cell_center2(0.5f, 12608);
+    EXPECT(nearest.x == 3.0f && nearest.y == 5.0f);
+    EXPECT(mk_cell_at_point2(0.5f, at) == mk_pack2(6, 10));
+    EXPECT(mk_cell_associated_to_point2(0.5f, at) == mk_pack2(5, 9));
+    EXPECT(mk_region_associated_to_point2(0.5f, at) == mk_pack2(4, 8));
+    EXPECT(centre.x == 2.5f && centre.y == 2.5f);
+}
+
+static void lookups(void) {
+    const uint64_t ids[3] = {4096, 8192, 16384};
+    mk_found_place there = mk_lookup(ids, 3, 16384), absent = mk_lookup(ids, 3, 12288), of_none = mk_lookup(NULL, 0, 0);
+    EXPECT(there.found == 1 && there.place == 2);
+    EXPECT(absent.found == 0 && absent.place == 0);
+    EXPECT(of_none.found == 0 && of_none.place == 0);
+}
+
+/* Two regions full of NaNs, signalling and quiet in turn, each with digits of its own. */
+static void nodes(void) {
+    const uint64_t ids[3] = {0, 4096, 4097};
+    float node_floats[224];
+    uint32_t node_words[32], kept[224], zeros[224] = {0};
+    mk_refusal done, refused;
+    for (uint32_t k = 0; k < 224; k++) {
+        kept[k] = (k % 2 == 0 ? 0x7f800001 : 0xffc00000) + k;
+    }
+    memcpy(node_floats, kept, sizeof kept);
+    memset(node_words, 0xa5, sizeof node_words);
+    refused = mk_clear2(2, ids + 1, 2, node_floats, 224, node_words, 32);
+    EXPECT(refused.number == 6 && refused.index == 1);
+    refused = mk_clear2(2, ids, 2, node_floats, 223, node_words, 32);
+    EXPECT(refused.number == 1 && refused.index == 0);
+    EXPECT(memcmp(node_floats, kept, sizeof kept) == 0 && node_words[0] == 0xa5a5a5a5 && node_words[31] == 0xa5a5a5a5);
+    done = mk_clear2(2, ids, 2, node_floats, 224, node_words, 32);
+    EXPECT(done.number == 0 && done.index == 0);
+    EXPECT(memcmp(node_floats, zeros, sizeof zeros) == 0 && memcmp(node_words, zeros, sizeof node_words) == 0);
+    done = mk_clear2(0, NULL, 0, NULL, 0, NULL, 0);
+    EXPECT(done.number == 0 && done.index == 0);
+    EXPECT(mk_clear2(1, NULL, 0, NULL, 0, NULL, 0).number == 1);
+}
+
 int main(void) {
     ids_in_2d();
     ids_in_3d();
     floats();
     plane();
+    cells();
+    lookups();
+    nodes();
     return wrong;
 }

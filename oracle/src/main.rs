@@ -1,5 +1,6 @@
 //! Asks the handed-over Rust and writes its answers down (`write`), or holds the answers written down against it (`check`).
 
+mod reading;
 mod rng;
 mod sha256;
 mod vectors;

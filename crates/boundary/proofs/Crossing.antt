@@ -1,4 +1,4 @@
--- What crosses the boundary in another form than it has inside: a flag as 1 or 0, a signed number by its bits.
+-- What crosses the boundary in another form than it has inside: a flag as 1 or 0, a signed number by its bits, a place with a flag, an answer by its number and its index.
 -- Assumes nothing.
 use mathlib.Core.Path.{_≡_, ap, sym, _∙_}
 use mathlib.Core.Bool.{Bool, cond}
@@ -7,6 +7,11 @@ use lib.IntN.{ℤ}
 use mir.Syntax.{w32}
 use mir.Val.{SFits, ofZ, toZ}
 use mir.ValLaws.{toZ-ofZ}
+use Rattle.laws.specs.Refusals.{settle}
+use Rattle.cells.specs.declared.Found.{Found}
+use Rattle.grid.specs.Answers.{numberOf, indexOf, refused}
+use Rattle.grid.specs.declared.Answer.{Answer}
+use Rattle.boundary.specs.Crossing.{foundFlag, foundPlace}
 
 -- The answer was right and is the branch that was taken, so the number of the branch is the number of what is right.
 pub flag : {answer right branch : Bool} → answer ≡ right → answer ≡ branch → cond {A = ℕ} branch 1 0 ≡ cond right 1 0
@@ -15,3 +20,12 @@ flag e t = ap (λ (b : Bool). cond {A = ℕ} b 1 0) (sym t ∙ e)
 -- A number is passed by its bits, which stand for it again.
 pub passed : {x : ℤ} → SFits w32 x → toZ w32 (ofZ w32 x) ≡ x
 passed {x} f = toZ-ofZ w32 x f
+
+-- The answer was right and is the case that was met, so flag and place of the case are those of what is right.
+pub placed : {answer right case : Found} → answer ≡ right → answer ≡ case → (foundFlag case ≡ foundFlag right) × (foundPlace case ≡ foundPlace right)
+placed e t = (ap foundFlag (sym t ∙ e), ap foundPlace (sym t ∙ e))
+
+-- The same of a call that may refuse: number and index of the case are those of what is right, and what the call leaves is so too.
+pub answered : {S : Type 0} {answer right case : Answer} {left : S} (old new : S) → (answer ≡ right) × (left ≡ settle (refused answer) old new) → answer ≡ case
+    → (numberOf case ≡ numberOf right) × (indexOf case ≡ indexOf right) × (left ≡ settle (refused right) old new)
+answered old new (e, l) t = (ap numberOf (sym t ∙ e), ap indexOf (sym t ∙ e), l ∙ ap (λ (a : Answer). settle (refused a) old new) e)

@@ -68,6 +68,20 @@ pub struct Weights2 {
     pub y: [f32; 3],
 }
 
+#[repr(C)]
+#[derive(Clone, Copy, Debug, PartialEq)]
+pub struct FoundPlace {
+    pub found: u32,
+    pub place: usize,
+}
+
+#[repr(C)]
+#[derive(Clone, Copy, Debug, PartialEq)]
+pub struct Refusal {
+    pub number: u32,
+    pub index: usize,
+}
+
 extern "C" {
     pub fn mk_masked_add(mask: u64, i: u64, j: u64) -> u64;
     pub fn mk_region_of(cell_id: u64) -> u64;
@@ -118,4 +132,19 @@ extern "C" {
     pub fn mk_stencil2(elt_pos: Point2, particle_pos: Point2, h: f32) -> f32;
     pub fn mk_stencil_gradient_with_dir2(elt_pos_minus_particle_pos: Vector2, h: f32) -> Vector2;
     pub fn mk_stencil_gradient2(elt_pos: Point2, particle_pos: Point2, h: f32) -> Vector2;
+    pub fn mk_lookup(ids: *const u64, ids_len: usize, id: u64) -> FoundPlace;
+    pub fn mk_cell_pos_closest_to_point2(cell_width: f32, pt: Point2) -> Point2;
+    pub fn mk_cell_at_point2(cell_width: f32, pt: Point2) -> u64;
+    pub fn mk_cell_associated_to_point2(cell_width: f32, pt: Point2) -> u64;
+    pub fn mk_region_associated_to_point2(cell_width: f32, pt: Point2) -> u64;
+    pub fn mk_cell_center2(cell_width: f32, cell_id: u64) -> Point2;
+    pub fn mk_clear2(
+        regions: usize,
+        ids: *const u64,
+        ids_len: usize,
+        node_floats: *mut f32,
+        node_floats_len: usize,
+        node_words: *mut u32,
+        node_words_len: usize,
+    ) -> Refusal;
 }

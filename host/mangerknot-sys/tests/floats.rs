@@ -1,6 +1,9 @@
 //! Numeric through the archive: document 01's values, and Rust's own arithmetic on zeros, infinities, NaNs and the ends of the range.
 
+mod pattern;
+
 use mangerknot_sys::*;
+use pattern::bits;
 
 /// Zeros, smallest and largest numbers, halves and their neighbours, powers around the ends of the cast and of whole numbers,
 /// infinities, NaNs quiet and signalling, each with both signs; and numbers spread over the range.
@@ -34,15 +37,6 @@ fn samples() -> Vec<f32> {
     let signed = edges.iter().flat_map(|edge| [*edge, *edge | 0x8000_0000]);
     let spread = (0..=u32::MAX).step_by(9_000_011);
     signed.chain(spread).map(f32::from_bits).collect()
-}
-
-/// The bits of a number, the same for every NaN.
-fn bits(x: f32) -> u32 {
-    if x.is_nan() {
-        0x7fc0_0000
-    } else {
-        x.to_bits()
-    }
 }
 
 fn same(port: f32, right: f32, of: &[f32]) {

@@ -1,8 +1,9 @@
 //! Packing through the archive: document 01's values, and every packing vector, whose answers are the handed-over Rust's.
 
+mod replay;
+
 use mangerknot_sys::*;
-use std::collections::BTreeMap;
-use std::fs;
+use replay::{decimal, hex, id, replay};
 
 #[test]
 fn document_01s_values_in_2d() {
@@ -49,30 +50,17 @@ fn flags_are_numbers() {
     }
 }
 
-fn hex(word: &str) -> u64 {
-    u64::from_str_radix(word, 16).expect("a field of hex digits")
-}
-
-fn decimal<T: std::str::FromStr>(word: &str) -> T {
-    word.parse().ok().expect("a decimal field")
-}
-
 fn signed(word: &str) -> i32 {
     u32::from_str_radix(word, 16).expect("a field of 8 hex digits") as i32
-}
-
-fn id(answer: u64) -> String {
-    format!("{:016X}", answer)
 }
 
 fn ids(answers: &[u64]) -> String {
     answers.iter().map(|answer| id(*answer)).collect::<Vec<_>>().join("\t")
 }
 
-/// The archive's answer to a line of questions; the letters are explained at the top of the file.
-unsafe fn answer(question: &str) -> String {
-    let words: Vec<&str> = question.split('\t').collect();
-    match words[..] {
+/// The archive's answer to a question; the letters are explained at the top of the file.
+unsafe fn answer(question: &[&str]) -> String {
+    match *question {
         ["p2", x, y] => id(mk_pack2(decimal(x), decimal(y))),
         ["p3", x, y, z] => id(mk_pack3(decimal(x), decimal(y), decimal(z))),
         ["i2", x, y] => id(mk_packi2(signed(x), signed(y))),
@@ -109,21 +97,13 @@ unsafe fn answer(question: &str) -> String {
         ["l3", region, number] => id(mk_cell_of_region3(hex(region), decimal(number))),
         ["r0", cell] => id(mk_region_of(hex(cell))),
         ["m0", mask, i, j] => id(mk_masked_add(hex(mask), hex(i), hex(j))),
-        _ => panic!("no such question: {}", question),
+        _ => panic!("no such question: {:?}", question),
     }
 }
 
 #[test]
 fn packing_vectors() {
-    let read =
-        |name| fs::read_to_string(format!("{}/../../crates/packing_runs/{}", env!("CARGO_MANIFEST_DIR"), name)).expect(name);
-    let (questions, answers) = (read("stdin"), read("stdout"));
-    assert_eq!(questions.lines().count(), answers.lines().count());
-    let mut asked: BTreeMap<&str, usize> = BTreeMap::new();
-    for (question, right) in questions.lines().zip(answers.lines()).filter(|(question, _)| !question.starts_with('#')) {
-        assert_eq!(unsafe { answer(question) }, right, "to {}", question);
-        *asked.entry(&question[..2]).or_default() += 1;
-    }
+    let asked = replay("crates/packing_runs/stdin", "crates/packing_runs/stdout", |question| unsafe { answer(question) });
     // 30 functions, each asked: an empty file would pass otherwise.
     assert_eq!(asked.len(), 30);
 }

@@ -1,5 +1,7 @@
-//! The vectors files: questions for a program of the project, and the answers the handed-over Rust gives to them.
+//! The vectors files: questions for the project's programs or its archive, and the answers that the port is held to.
 
+mod floats;
+mod grid;
 mod numeric;
 mod packing;
 
@@ -7,24 +9,29 @@ use crate::rng::SEED;
 use crate::sha256::hex_digest;
 use std::collections::HashSet;
 
-/// A folder of the repository with its `stdin` (questions) and `stdout` (answers), and what makes them.
+/// Two files of the repository, and what makes them.
 pub struct Vectors {
-    pub folder: &'static str,
+    pub questions: &'static str,
+    pub answers: &'static str,
     pub make: fn() -> Sheet,
 }
 
 pub const ALL: &[Vectors] = &[
-    Vectors { folder: "crates/packing_runs", make: packing::make },
-    Vectors { folder: "crates/numeric_runs", make: numeric::make },
+    Vectors { questions: "crates/packing_runs/stdin", answers: "crates/packing_runs/stdout", make: packing::make },
+    Vectors { questions: "crates/numeric_runs/stdin", answers: "crates/numeric_runs/stdout", make: numeric::make },
+    Vectors { questions: "host/vectors/grid.questions", answers: "host/vectors/grid.answers", make: grid::make },
 ];
 
 impl Vectors {
     /// The two files' paths in the repository and their texts.
     pub fn files(&self) -> [(String, String); 2] {
         let sheet = (self.make)();
-        [(format!("{}/stdin", self.folder), sheet.questions), (format!("{}/stdout", self.folder), sheet.answers)]
+        [(self.questions.to_string(), sheet.questions), (self.answers.to_string(), sheet.answers)]
     }
 }
+
+/// What a sheet is about whose answers are all the Rust's, and which a program reads and writes.
+pub const OF_THE_RUST: &str = "questions (stdin) and the answers of the handed-over Rust to them (stdout), line by line.";
 
 /// Questions and answers, line by line; both begin with the header.
 pub struct Sheet {
@@ -35,10 +42,9 @@ pub struct Sheet {
 
 impl Sheet {
     /// A sheet with nothing but its header: what it is about, the seed, the handed-over files that answer, and the legend.
-    pub fn titled(title: &str, sources: &[&str], legend: &[&str]) -> Self {
-        let about = "vectors: questions (stdin) and the answers of the handed-over Rust to them (stdout), line by line.";
+    pub fn titled(title: &str, about: &str, sources: &[&str], legend: &[&str]) -> Self {
         let mut lines = vec![
-            format!("{} {}", title, about),
+            format!("{} vectors: {}", title, about),
             "Made by `oracle write`, held against the Rust by `oracle check`; not to be edited by hand.".to_string(),
             format!("seed {}", hex(SEED)),
         ];
@@ -72,6 +78,11 @@ pub fn hex(number: u64) -> String {
     format!("{:016X}", number)
 }
 
+/// Each u64 as sixteen hex digits.
+pub fn hexes(numbers: impl IntoIterator<Item = u64>) -> Vec<String> {
+    numbers.into_iter().map(hex).collect()
+}
+
 /// A u32 as eight hex digits.
 pub fn word(number: u32) -> String {
     format!("{:08X}", number)
@@ -85,35 +96,42 @@ pub fn decimal(number: impl Into<u64>) -> String {
 /// Reads a sheet's lines again, for the tests of each sheet.
 #[cfg(test)]
 mod format {
-    use super::Sheet;
+    use super::floats::WRITTEN_NAN;
+    use super::{word, Sheet};
     use std::collections::BTreeMap;
 
     pub fn fields(line: &str) -> Vec<&str> {
         line.split('\t').collect()
     }
 
-    /// How often each operation is asked. `kinds` has a letter for each field that an operation's questions and its answers
-    /// have: H and W upper case hex digits, 16 and 8, D a decimal.
-    pub fn counts(sheet: &Sheet, kinds: impl Fn(&str) -> (String, String)) -> BTreeMap<String, usize> {
+    /// The questions and their answers, by fields.
+    pub fn rows(sheet: &Sheet) -> impl Iterator<Item = (Vec<&str>, Vec<&str>)> {
+        let lines = sheet.questions.lines().zip(sheet.answers.lines());
+        lines.filter(|(question, _)| !question.starts_with('#')).map(|(question, answer)| (fields(question), fields(answer)))
+    }
+
+    /// How often each operation is asked. `kinds` has, for a question, a letter for each field behind its first and for each of
+    /// its answer: H and W upper case hex digits, 16 and 8, F such a W that is an f32 and no NaN but the written one, D a decimal.
+    pub fn counts(sheet: &Sheet, kinds: impl Fn(&[&str]) -> (String, String)) -> BTreeMap<String, usize> {
         let mut counts = BTreeMap::new();
         assert_eq!(sheet.questions.lines().count(), sheet.answers.lines().count());
-        for (question, answer) in sheet.questions.lines().zip(sheet.answers.lines()) {
-            if question.starts_with('#') {
-                assert_eq!(question, answer);
-                continue;
-            }
-            let asked = fields(question);
-            let (asks, says) = kinds(asked[0]);
-            assert_kinds(question, &asked[1..], &asks);
-            assert_kinds(answer, &fields(answer), &says);
+        assert!(comments(&sheet.questions).eq(comments(&sheet.answers)));
+        for (asked, said) in rows(sheet) {
+            let (asks, says) = kinds(&asked);
+            assert_kinds(&asked, &asked[1..], &asks);
+            assert_kinds(&asked, &said, &says);
             *counts.entry(asked[0].to_string()).or_insert(0) += 1;
         }
         counts
     }
 
-    fn assert_kinds(line: &str, fields: &[&str], kinds: &str) {
-        assert_eq!(fields.len(), kinds.len(), "{}", line);
-        assert!(fields.iter().zip(kinds.chars()).all(|(field, kind)| is_of_kind(field, kind)), "{}", line);
+    fn comments(text: &str) -> impl Iterator<Item = (usize, &str)> {
+        text.lines().enumerate().filter(|(_, line)| line.starts_with('#'))
+    }
+
+    fn assert_kinds(question: &[&str], fields: &[&str], kinds: &str) {
+        assert_eq!(fields.len(), kinds.len(), "{:?}", question);
+        assert!(fields.iter().zip(kinds.chars()).all(|(field, kind)| is_of_kind(field, kind)), "{:?}", question);
     }
 
     fn is_of_kind(field: &str, kind: char) -> bool {
@@ -121,8 +139,13 @@ mod format {
         match kind {
             'H' => field.len() == 16 && upper_hex,
             'W' => field.len() == 8 && upper_hex,
+            'F' => is_of_kind(field, 'W') && (field == word(WRITTEN_NAN) || !is_nan(field)),
             _ => field.parse::<u64>().map_or(false, |number| number.to_string() == field),
         }
+    }
+
+    fn is_nan(field: &str) -> bool {
+        f32::from_bits(u32::from_str_radix(field, 16).unwrap()).is_nan()
     }
 }
 

@@ -1,19 +1,15 @@
 //! Questions about f32, and the answers of Rust itself (`round`, the casts, `sqrt`, `max`, `abs`, `signum`), of `kernel.rs` and of
 //! `physics.rs`, in two dimensions.
 
-use super::{word, Sheet};
+use super::floats::{around, around_all, between, everywhere, nans, patterns, wild_or_not, words, written};
+use super::floats::{INFINITY, QUIET, SIGN, WIDTHS, WILD};
+use super::{Sheet, OF_THE_RUST};
 use crate::rng::{Rng, SEED};
 use sparkl2d::kernel::QuadraticKernel as Kernel;
 use sparkl2d::utils::inv_exact;
 
 /// The handed-over files that give the answers here.
 const SOURCES: [&str; 2] = ["src_core/dynamics/solver/kernel.rs", "src/utils/physics.rs"];
-
-/// How every NaN is written, since nothing says which of its patterns an operation answers.
-const WRITTEN_NAN: u32 = 0x7FC0_0000;
-
-const SIGN: u32 = 1 << 31;
-const INFINITY: u32 = 0x7F80_0000;
 
 /// The operations of one f32.
 const OF_ONE: [char; 11] = ['r', 'c', 'q', 'i', 'a', 'g', 'b', 'd', 'e', 'k', 'v'];
@@ -36,16 +32,12 @@ const LEGEND: [&str; 10] = [
 ];
 
 pub fn make() -> Sheet {
-    let mut sheet = Sheet::titled("Numeric", &SOURCES, &LEGEND);
+    let mut sheet = Sheet::titled("Numeric", OF_THE_RUST, &SOURCES, &LEGEND);
     for (operation, question) in questions(&mut Rng::new(SEED)) {
         let answer = answers(operation, &question);
         sheet.row(&operation.to_string(), words(&question), words(&answer));
     }
     sheet
-}
-
-fn words(numbers: &[u32]) -> Vec<String> {
-    numbers.iter().map(|number| word(*number)).collect()
 }
 
 // Answers.
@@ -56,14 +48,6 @@ fn answers(operation: char, question: &[u32]) -> Vec<u32> {
         ('c', [x]) => vec![*x as u32],
         ('w', [_]) => vec![written(question[0] as f32)],
         (_, numbers) => float_answers(operation, numbers).into_iter().map(written).collect(),
-    }
-}
-
-fn written(x: f32) -> u32 {
-    if x.is_nan() {
-        WRITTEN_NAN
-    } else {
-        x.to_bits()
     }
 }
 
@@ -115,37 +99,6 @@ fn questions(rng: &mut Rng) -> Vec<Question> {
     asked
 }
 
-/// A pattern and the `reach` patterns on either side of it, with both signs. What would lie below zero's pattern is a NaN's.
-fn around(bits: u32, reach: u32) -> Vec<u32> {
-    let near = (0..=2 * reach).map(|step| bits.wrapping_add(step).wrapping_sub(reach));
-    near.flat_map(|near| [near, near ^ SIGN]).collect()
-}
-
-fn around_all(numbers: &[f32], reach: u32) -> Vec<u32> {
-    numbers.iter().flat_map(|number| around(number.to_bits(), reach)).collect()
-}
-
-/// Every exponent with few, many and random digits and both signs (so both zeros, subnormals, the infinities and NaNs), more
-/// patterns of NaNs, and random patterns.
-fn everywhere(rng: &mut Rng) -> Vec<u32> {
-    let mut found = nans(rng);
-    for exponent in (0..256).map(|field| field << 23) {
-        let digits = [0, 1, 0x3F_FFFF + rng.below(2) as u32, 0x7F_FFFF, rng.word() >> 9];
-        found.extend(digits.iter().flat_map(|digits| [exponent | digits, SIGN | exponent | digits]));
-    }
-    found.extend((0..100).map(|_| rng.word()));
-    found
-}
-
-/// Quiet NaNs have the highest digit set, signalling ones have not.
-const QUIET: u32 = 1 << 22;
-
-fn nans(rng: &mut Rng) -> Vec<u32> {
-    let mut digits = vec![1, 2, QUIET - 1, QUIET, QUIET + 1, QUIET + 2, 2 * QUIET - 1, QUIET / 2, QUIET + QUIET / 2];
-    digits.extend((0..12).map(|_| rng.word() >> 9 | 1));
-    digits.iter().flat_map(|digits| [INFINITY | digits, SIGN | INFINITY | digits]).collect()
-}
-
 /// Halves and whole numbers with their neighbours, up to where no f32 has a fraction.
 fn ties(rng: &mut Rng) -> Vec<u32> {
     let mut doubled: Vec<u32> = (0..33).collect();
@@ -178,10 +131,6 @@ fn near_the_kernel(rng: &mut Rng) -> Vec<u32> {
     found
 }
 
-fn between(low: f32, high: f32, rng: &mut Rng) -> f32 {
-    low + (high - low) * ((rng.word() >> 8) as f32 / 16777216.0)
-}
-
 /// Around powers of two, and from 2^24 on around f32s and the middles between two of them, of even and of odd ones.
 fn whole_numbers(rng: &mut Rng) -> Vec<u32> {
     let mut found: Vec<u32> = (0..32).flat_map(|bit| three(1 << bit)).collect();
@@ -202,22 +151,6 @@ fn three(number: u32) -> [u32; 3] {
     [number.wrapping_sub(1), number, number.wrapping_add(1)]
 }
 
-/// What no rule of the kernel or of a maximum has in mind: nothing, very little, very much, and no number.
-const WILD: [f32; 12] = [
-    0.0,
-    -0.0,
-    f32::MIN_POSITIVE,
-    -f32::MIN_POSITIVE,
-    1e-45,
-    -1e-45,
-    f32::MAX,
-    f32::MIN,
-    f32::INFINITY,
-    f32::NEG_INFINITY,
-    f32::NAN,
-    1e20,
-];
-
 fn pairs(rng: &mut Rng) -> Vec<(u32, u32)> {
     let mut numbers: Vec<u32> = WILD.iter().map(|x| x.to_bits()).collect();
     numbers.extend([1.0f32, -1.0, 1.5, -2.5].map(f32::to_bits));
@@ -237,9 +170,6 @@ fn is_settled((a, b): (u32, u32)) -> bool {
     !(is_zero(a) && is_zero(b) || is_signalling(a) || is_signalling(b))
 }
 
-/// Cell widths: powers of two, the ends of document 01's range among them, and others.
-const WIDTHS: [f32; 12] = [1.0, 0.5, 0.25, 2.0, 0.1, 0.05, 0.3, 3.0, 0.001, 1.0 / 3.0, 1048576.0, 1.0 / 1048576.0];
-
 fn stencils(rng: &mut Rng) -> Vec<Question> {
     let mut found = vec![];
     for h in WIDTHS {
@@ -258,10 +188,6 @@ fn stencils(rng: &mut Rng) -> Vec<Question> {
         found.extend(OF_POINTS.map(|operation| (operation, patterns(&[a, b, c, d, h]))));
     }
     found
-}
-
-fn patterns(numbers: &[f32]) -> Vec<u32> {
-    numbers.iter().map(|x| x.to_bits()).collect()
 }
 
 fn of_vector(dx: f32, dy: f32, h: f32) -> [Question; 3] {
@@ -288,19 +214,11 @@ fn within_two_cells(h: f32, rng: &mut Rng) -> f32 {
     between(-2.0, 2.0, rng) * h
 }
 
-/// Anything: an f32 of `WILD`, a random pattern, or an everyday number.
-fn wild_or_not(rng: &mut Rng) -> f32 {
-    match rng.below(4) {
-        0 => WILD[rng.below(WILD.len() as u64) as usize],
-        1 => f32::from_bits(rng.word()),
-        _ => between(-2.0, 2.0, rng),
-    }
-}
-
 #[cfg(test)]
 mod tests {
     use super::*;
-    use crate::vectors::format::{counts, fields};
+    use crate::vectors::format::{counts, rows};
+    use crate::vectors::word;
 
     #[test]
     fn document_01s_values() {
@@ -339,9 +257,10 @@ mod tests {
 
     #[test]
     fn every_line_is_of_the_format_and_every_operation_is_asked() {
-        let counts = counts(&make(), |operation| {
-            let (asks, says) = sizes(operation);
-            ("W".repeat(asks), "W".repeat(says))
+        let counts = counts(&make(), |question| {
+            let (asks, says) = sizes(question[0]);
+            let said = if question[0] == "c" { "W" } else { "F" };
+            ("W".repeat(asks), said.repeat(says))
         });
         let asked: String = counts.keys().map(String::as_str).collect();
         assert_eq!(asked, "abcdegikmpqrstvwxy");
@@ -368,22 +287,10 @@ mod tests {
     #[test]
     fn no_maximum_hangs_on_the_machine() {
         let sheet = make();
-        let asked = sheet.questions.lines().map(fields).filter(|fields| fields[0] == "m");
-        for pair in asked {
+        for (pair, _) in rows(&sheet).filter(|(question, _)| question[0] == "m") {
             let [a, b] = [pair[1], pair[2]].map(|field| u32::from_str_radix(field, 16).unwrap());
             assert!(is_settled((a, b)), "{:?}", pair);
             assert!(a << 1 != 0 || b << 1 != 0, "{:?}", pair);
-        }
-    }
-
-    #[test]
-    fn every_nan_is_written_as_one() {
-        let sheet = make();
-        let numbers =
-            sheet.answers.lines().zip(sheet.questions.lines()).filter(|(_, question)| !question.starts_with(['#', 'c']));
-        for (answer, question) in numbers {
-            let is_nan = |field: &str| f32::from_bits(u32::from_str_radix(field, 16).unwrap()).is_nan();
-            assert!(fields(answer).iter().all(|field| !is_nan(field) || *field == "7FC00000"), "{}", question);
         }
     }
 }

@@ -4,7 +4,7 @@
 //! mask, `k` from its `unpack`, `l` from its region mask, `pack` and `packed_add`, `s` from its `packed_add` and its table of
 //! shifts, `f` from its `packed_add` and its constant.
 
-use super::{decimal, hex, word, Sheet};
+use super::{decimal, hex, hexes, word, Sheet, OF_THE_RUST};
 use crate::rng::{Rng, SEED};
 use sparkl2d::geometry::way_in as rust2;
 use sparkl3d::geometry::way_in as rust3;
@@ -107,7 +107,7 @@ fn sums_by_mask() -> Vec<(u64, Sum)> {
 }
 
 pub fn make() -> Sheet {
-    let mut sheet = Sheet::titled("Packing", &SOURCES, &LEGEND);
+    let mut sheet = Sheet::titled("Packing", OF_THE_RUST, &SOURCES, &LEGEND);
     let mut rng = Rng::new(SEED);
     for rust in [rust_2d(), rust_3d()] {
         packs(&mut sheet, &rust, &mut rng);
@@ -228,7 +228,7 @@ fn single_bits() -> impl Iterator<Item = u64> {
 }
 
 /// Nothing, everything, each bit alone, and everything but one bit.
-fn edge_ids() -> Vec<u64> {
+pub fn edge_ids() -> Vec<u64> {
     let mut ids = vec![0, u64::MAX];
     ids.extend(single_bits());
     ids.extend(single_bits().map(|bit| !bit));
@@ -272,7 +272,7 @@ fn ids_alone(sheet: &mut Sheet, rust: &Rust, rng: &mut Rng) {
         sheet.row(&operation('k', rust), vec![hex(id)], vec![decimal(number_in_region(rust, id))]);
     }
     for id in all_kinds_of_ids(rust, 40, rng) {
-        let stencil = rust.packed_nbh_shifts.iter().map(|shift| (rust.packed_add)(id, *shift)).collect();
+        let stencil = rust.packed_nbh_shifts.iter().map(|shift| (rust.packed_add)(id, *shift));
         sheet.row(&operation('s', rust), vec![hex(id)], hexes(stencil));
     }
 }
@@ -407,10 +407,6 @@ fn decimals(parts: &[u32]) -> Vec<String> {
     parts.iter().map(|part| decimal(*part)).collect()
 }
 
-fn hexes(ids: Vec<u64>) -> Vec<String> {
-    ids.into_iter().map(hex).collect()
-}
-
 #[cfg(test)]
 mod tests {
     use super::*;
@@ -512,7 +508,8 @@ mod tests {
 
     #[test]
     fn every_line_is_of_the_format_and_every_operation_is_asked() {
-        let counts = counts(&make(), |operation| {
+        let counts = counts(&make(), |question| {
+            let operation = question[0];
             let (_, asks, says) = KINDS.iter().find(|(letter, ..)| operation.starts_with(letter)).unwrap();
             (expanded(asks, operation), expanded(says, operation))
         });
