@@ -1,11 +1,13 @@
--- Document 01, "Stages": "a node holds mass, momentum, velocity, two psi numbers and a boundary flag", and how it lies in lent memory. Definitions only.
-use mathlib.Core.Path.{refl}
+-- Document 01, "Stages": "a node holds mass, momentum, velocity, two psi numbers and a boundary flag", and how it lies in lent memory. Definitions, and what is proved of them.
+-- Assumes nothing.
+use mathlib.Core.Path.{_≡_, refl}
+use mathlib.Core.Logic.{_↔_}
 use mathlib.Core.List.{[], _∷_}
 use Prim.Native.Nat.{ℕ, _^_}
 use lib.ListN.{getD}
 use lib.Ieee.{nan}
 use Rattle.numeric.specs.Bits.{none}
-use Rattle.laws.specs.Store.{Store, Form, Cells, getRecord, putRecord}
+use Rattle.laws.specs.Store.{Store, Form, Cells, getRecord, putRecord, Holds}
 use Rattle.laws.proofs.Rows.{read-all}
 use Rattle.laws.proofs.Records.{records}
 use Rattle.grid.specs.declared.grid_node.GridNode.{GridNode}
@@ -48,9 +50,21 @@ nodeAt s k = getRecord nodeForm s k
 unfoldable pub putNode : Store → ℕ → GridNode → Store
 putNode s k n = putRecord nodeForm s k n
 
--- the nodes as cells of the store, on which hits are made
+-- the nodes as cells of the store, on which hits are made: what a hit reads, what it writes, and what a store of n nodes is
 unfoldable pub nodes : Cells Store GridNode
 nodes = records nodeForm
+
+pub reads : (s : Store) (k : ℕ) → nodes .get s k ≡ nodeAt s k
+unfolding nodes records nodeAt
+reads s k = refl
+
+pub writes : (s : Store) (k : ℕ) (n : GridNode) → nodes .put s k n ≡ putNode s k n
+unfolding nodes records putNode
+writes s k n = refl
+
+pub stores : (s : Store) (n : ℕ) → Holds nodeForm s n ↔ nodes .Ok s n
+unfolding nodes records
+stores s n = (λ h. h, λ h. h)
 
 -- all +0, flag off
 abbrev pub emptyNode : GridNode
