@@ -3,7 +3,7 @@ use mathlib.Core.Path.{_≡_, refl, sym, ap, _∙_}
 use mathlib.Core.Bool.{Bool, true, false}
 use mathlib.Core.Logic.{_⊎_, inl, inr}
 use mathlib.Core.List.{List, [], _∷_, _++_, append-nil}
-use Prim.Native.Nat.{ℕ, zero, suc, _+_, _<_}
+use Prim.Native.Nat.{ℕ, zero, suc, _+_, _-_, _≤_, _<_}
 use native.Mathlib.Numerals.{add-one}
 use native.Mathlib.Omega.{arith}
 use lib.Dec.{eqb}
@@ -107,6 +107,10 @@ module _ {S A : Type 0} (C : Cells S A) where
   pub run-more : {s t : S} (f : ℕ → List (Hit A)) (i : ℕ) (s₀ : S) → s ≡ run C (gather f i) s₀ → t ≡ run C (f i) s → t ≡ run C (gather f (i + 1)) s₀
   unfolding gather
   run-more f i s₀ p q = q ∙ ap (run C (f i)) p ∙ sym (run-append (gather f i) (f i) s₀) ∙ rw add-one
+
+  -- the same in a loop that counts down what is left of n
+  pub run-left : (f : ℕ → List (Hit A)) (n left : ℕ) (s t u : S) → 0 < left → left ≤ n → t ≡ run C (gather f (n - left)) s → u ≡ run C (f (n - left)) t → u ≡ run C (gather f (n - (left - 1))) s
+  run-left f n left s t u p q e g = let i : n - left + 1 ≡ n - (left - 1) = omega arith in rw i at (run-more f (n - left) s e g)
 
   pub run-skip : {s : S} (f : ℕ → List (Hit A)) (i : ℕ) (s₀ : S) → s ≡ run C (gather f i) s₀ → f i ≡ [] → s ≡ run C (gather f (i + 1)) s₀
   unfolding run

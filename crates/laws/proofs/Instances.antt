@@ -1,13 +1,16 @@
--- The definitions on values that can be followed by hand: records of words alone, of floats alone and of nothing, hits on them, and first refusals. Assumes nothing.
+-- The definitions on values that can be followed by hand: records of words alone, of floats alone and of nothing, hits on them, sources of
+-- hits and an order of them, and first refusals. Assumes nothing.
 use mathlib.Core.Bool.{Bool, true, false}
-use mathlib.Core.List.{List, [], _∷_}
+use mathlib.Core.List.{List, [], _∷_, _++_}
 use mathlib.Core.Path.{_≡_, refl}
-use Prim.Native.Nat.{ℕ, _+_}
+use Prim.Native.Nat.{ℕ, _+_, _%_}
+use native.Mathlib.Omega.{arith}
 use lib.Dec.{leb}
 use lib.ListN.{getD}
 use lib.Ieee.{Float, nan, inf}
 use Rattle.laws.specs.Store.{Store, store, Form, Cells, getRecord, putRecord}
 use Rattle.laws.specs.Hits.{Hit, only, hit, run, gather}
+use Rattle.laws.specs.Orders.{byColour, InTurn}
 use Rattle.laws.specs.Refusals.{settle, first, firstOf}
 use Rattle.laws.proofs.Rows.{read-all}
 use Rattle.laws.proofs.Records.{records}
@@ -85,6 +88,24 @@ raise p = record { one = p .one + 10; other = p .other + 10 }
 abbrev hits : List (Hit Pair)
 hits = record { at = 1; change = exchange } ∷ record { at = 0; change = raise } ∷ record { at = 1; change = raise } ∷ []
 
+-- three sources, of the colours 0, 1, 0, each with a hit on the pair at its own place; and the order 2, 0, 1 of them
+abbrev colour : ℕ → ℕ
+colour r = r % 2
+
+abbrev source : ℕ → List (Hit Pair)
+source r = record { at = r; change = raise } ∷ []
+
+abbrev order : ℕ → ℕ
+order i = (i + 2) % 3
+
+pub turn : InTurn colour order 2 3
+turn = record {
+  below = λ i l. omega arith;
+  once = λ i j l h e. omega arith;
+  ascending = λ i j l h. omega arith;
+  coloured = λ r l. omega arith;
+}
+
 -- numbers above 5 are refusals
 abbrev above : ℕ → Bool
 above n = leb 6 n
@@ -99,6 +120,9 @@ pub record Values : Type 0 where
   pub third : only 2 hits ≡ []
   -- a loop's hits are those of its turns, in order
   pub turns : gather (λ i. i ∷ (i + 5) ∷ []) 2 ≡ 0 ∷ 5 ∷ 1 ∷ 6 ∷ []
+  -- the order of the three sources, and their hits colour by colour
+  pub ordered : gather (λ i. order i ∷ []) 3 ≡ 2 ∷ 0 ∷ 1 ∷ []
+  pub coloured : byColour colour source 2 3 ≡ source 0 ++ source 2 ++ source 1
   -- of 4, 9, 7 the second is refused first; of the numbers from 3 on the 6, of two from 3 on none
   pub list : first above 0 (4 ∷ 9 ∷ 7 ∷ []) ≡ 9
   pub range : (firstOf above 0 (λ k. k) 3 10 ≡ 6) × (firstOf above 0 (λ k. k) 3 2 ≡ 0)
@@ -106,4 +130,4 @@ pub record Values : Type 0 where
 
 pub values : Values
 unfolding run hit records only gather firstOf
-values = record { got = refl; put = refl; float = refl; after = refl; second = refl; third = refl; turns = refl; list = refl; range = (refl, refl); kept = (refl, refl) }
+values = record { got = refl; put = refl; float = refl; after = refl; second = refl; third = refl; turns = refl; ordered = refl; coloured = refl; list = refl; range = (refl, refl); kept = (refl, refl) }

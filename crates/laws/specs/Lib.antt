@@ -1,3 +1,4 @@
 pub mod Store
 pub mod Hits
+pub mod Orders
 pub mod Refusals
