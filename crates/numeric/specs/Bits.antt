@@ -1,10 +1,13 @@
 -- The numbers that patterns stand for, and the operators and constants under short names. Definitions only.
 use Prim.Native.Nat.{ℕ, zero, suc, _+_, _*_, _/_, _%_, _^_}
-use lib.Ieee.{Float, binary32, sub, mul, div, ofBits}
+use lib.Ieee.{Float, binary32, add, sub, mul, div, ofBits}
 
 -- Each operation is rounded once, to an f32.
-infixl 75 _⊖_
+infixl 75 _⊕_ _⊖_
 infixl 80 _⊗_ _⊘_
+abbrev pub _⊕_ : Float → Float → Float
+a ⊕ b = add binary32 a b
+
 abbrev pub _⊖_ : Float → Float → Float
 a ⊖ b = sub binary32 a b
 

@@ -3,7 +3,7 @@
 use mathlib.Core.Bool.{cond}
 use mathlib.Core.List.{List, [], _∷_, map}
 use lib.Ieee.{Float, lt, neg}
-use Rattle.numeric.specs.Bits.{_⊖_, _⊗_, _⊘_, square, none, half, threeQuarters, one, threeHalves, two, four}
+use Rattle.numeric.specs.Bits.{_⊕_, _⊖_, _⊗_, _⊘_, square, none, half, threeQuarters, one, threeHalves, two, four}
 use Rattle.numeric.specs.Scalar.{magnitude, signOf}
 
 unfoldable pub invD : Float → Float
@@ -42,6 +42,18 @@ times x (y ∷ ys) = times (x ⊗ y) ys
 abbrev pub product : List Float → Float
 product [] = one
 product (x ∷ xs) = times x xs
+
+-- s plus the products of two lists, left to right
+abbrev pub plusProducts : Float → List Float → List Float → Float
+plusProducts s [] ys = s
+plusProducts s (x ∷ xs) [] = s
+plusProducts s (x ∷ xs) (y ∷ ys) = plusProducts (s ⊕ x ⊗ y) xs ys
+
+-- Dot and matrix products add left to right.
+abbrev pub dot : List Float → List Float → Float
+dot [] ys = none
+dot (x ∷ xs) [] = none
+dot (x ∷ xs) (y ∷ ys) = plusProducts (x ⊗ y) xs ys
 
 -- the vector from one point to another, axis by axis
 abbrev pub minusAll : List Float → List Float → List Float

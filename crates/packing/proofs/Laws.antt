@@ -2,11 +2,13 @@
 -- Assumes nothing.
 use mathlib.Core.Path.{_≡_, refl, sym, ap, ap₂, _∙_, subst}
 use mathlib.Core.List.{List}
-use Prim.Native.Nat.{ℕ, _+_, _%_, _^_, _<_}
-use native.Mathlib.Nat.{mod-eq-of-lt, mod-mod}
+use Prim.Native.Nat.{ℕ, _+_, _/_, _%_, _^_, _<_}
+use native.Mathlib.Nat.{mod-eq-of-lt, mod-mod, mod-lt}
+use native.Mathlib.Omega.{arith}
 use lib.Bits.{bitAnd}
-use Rattle.packing.specs.Mask.{Mask, num, count, coord, place, bits, axisSum, whole, packed, below}
-use Rattle.packing.specs.Ids.{dim2, dim3, packedId, packedShifts}
+use lib.ListN.{length}
+use Rattle.packing.specs.Mask.{Mask, num, count, coord, place, bits, axisSum, coords, whole, packed, below}
+use Rattle.packing.specs.Ids.{dim2, dim3, packedId, packedShifts, stencilOf, number, fromFours, colour}
 use Rattle.packing.specs.Neighbours.{IsCell}
 use Rattle.packing.specs.Laws.{OfMask, OfSum, Laws}
 use Rattle.packing.proofs.Linear.{run, alike}
@@ -60,3 +62,17 @@ laws3 = laws-of dim3 good3
 pub packed2 : (cs : List ℕ) → IsCell dim2 (packedId dim2 cs)
 unfolding dim2 packedId
 packed2 = is-packed dim2 good2
+
+-- in 2D there are 4 colours, and 16 cells in a region, whatever stray bits an id has
+pub colours2 : (r : ℕ) → colour dim2 r < 4
+unfolding colour dim2
+colours2 r = mod-lt (r / 2 ^ 12) (omega arith)
+
+pub numbers2 : (i : ℕ) → number dim2 i < 16
+unfolding number fromFours coords dim2
+numbers2 i = omega arith
+
+-- and 9 cells in a stencil
+pub stencils2 : (i : ℕ) → length (stencilOf dim2 i) ≡ 9
+unfolding stencilOf packedShifts dim2
+stencils2 i = refl

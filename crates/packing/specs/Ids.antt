@@ -139,7 +139,7 @@ unfoldable pub colour : Dim → ℕ → ℕ
 colour d r = r / 2 ^ 12 % 2 ^ length (d .sumAxes)
 
 -- a colour out of range is no region's
-unfoldable pub inColour : Dim → ℕ → ℕ → Bool
+abbrev pub inColour : Dim → ℕ → ℕ → Bool
 inColour d r c = eqb (colour d r) c
 
 unfoldable pub packedRegionShifts : Dim → List ℕ

@@ -54,6 +54,12 @@ pub counts : (length (packedShifts dim2) ≡ 9) × (length (packedShifts dim3) �
 unfolding packedShifts packedRegionShifts dim2 dim3
 counts = (refl, refl, refl, refl)
 
+-- "shifts (2,2) (2,0) (2,1) (0,2) (0,0) (0,1) (1,2) (1,0) (1,1), in that order"
+pub shifts : dim2 .shifts
+    ≡ (2 ∷ 2 ∷ []) ∷ (2 ∷ 0 ∷ []) ∷ (2 ∷ 1 ∷ []) ∷ (0 ∷ 2 ∷ []) ∷ (0 ∷ 0 ∷ []) ∷ (0 ∷ 1 ∷ []) ∷ (1 ∷ 2 ∷ []) ∷ (1 ∷ 0 ∷ []) ∷ (1 ∷ 1 ∷ []) ∷ []
+unfolding dim2
+shifts = refl
+
 -- of eight blocks, the fourth and the fifth are near, and so are the first and the last; the third and the fifth are not
 pub nearby : T (near 8 3 4) × T (near 8 0 7) × T (not (near 8 2 4))
 unfolding near

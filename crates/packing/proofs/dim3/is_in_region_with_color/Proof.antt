@@ -2,17 +2,17 @@
 -- Assumes nothing.
 use native.Mathlib.Omega.{arith}
 use borrow.Author.Needs.{needs}
-use Rattle.packing.specs.Ids.{dim3, colour, inColour}
+use Rattle.packing.specs.Ids.{dim3, colour}
 use Rattle.packing.proofs.Fields.{out-of-range, in-range}
 use Rattle.packing.proofs.dim3.is_in_region_with_color.Statement.{statement}
 use Rattle.packing.proofs.dim3.is_in_region_with_color.Tie as tie
 
 returns : tie.Need-returns
-unfolding inColour colour dim3
+unfolding colour dim3
 returns c = let a = c .before .args in out-of-range 3 (a .region-id) (a .color) (omega arith)
 
 returns-2 : tie.Need-returns-2
-unfolding inColour colour dim3
+unfolding colour dim3
 returns-2 c = let a = c .before .args in in-range 3 (a .region-id) (a .color) (omega arith) tt
 
 pub is-in-region-with-color-spec : {M : Type 1} → statement M
