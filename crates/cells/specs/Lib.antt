@@ -1,3 +1,4 @@
 pub mod Cells
 pub mod Lookup
+pub mod Stencil
 pub mod Values

@@ -1,5 +1,6 @@
 // Where things stand in the sparse grid: the cell of a point, the centre of a cell, the place of a region in a list. Every float and every list is taken.
 pub mod dim2;
+pub mod inner;
 
 ghost use mathlib.Core.Path.{_≡_};
 ghost use Prim.Native.Nat.{_+_, _≤_};

@@ -1,0 +1,38 @@
+-- Document 01, "Float rules" and "Scatter": how the nodes of a particle's stencil lie to it, and what they weigh. Vectors are lists, an entry an axis, so that the plane and
+-- space share each definition. Definitions only.
+use mathlib.Core.List.{List, [], _∷_, map}
+use Prim.Native.Nat.{ℕ, suc, _^_}
+use lib.Ieee.{Float, nan}
+use lib.ListN.{getD}
+use Rattle.packing.specs.Ids.{Dim}
+use Rattle.numeric.specs.Bits.{_⊕_, _⊖_, _⊗_, one}
+use Rattle.numeric.specs.Kernel.{product}
+use Rattle.numeric.specs.Round.{nearestTo}
+use Rattle.cells.specs.Cells.{nearest}
+
+-- the cells of a stencil: 3 along each axis
+abbrev pub stencilCells : ℕ
+stencilCells = 3 ^ 2
+
+-- the shift of the cell at a place of the stencil, a number an axis
+abbrev pub shiftAt : Dim → ℕ → List ℕ
+shiftAt d k = getD (d .shifts) k []
+
+-- With r = round(x/h): d = (r-1)·h - x.
+unfoldable pub dirToAssociatedGridNode : Float → List Float → List Float
+dirToAssociatedGridNode h xs = map (λ (x : Float). (nearest h x ⊖ one) ⊗ h ⊖ x) xs
+
+-- dpt = d + shift·h
+abbrev pub dptOf : Float → List Float → List ℕ → List Float
+dptOf h [] ss = []
+dptOf h (d ∷ ds) [] = []
+dptOf h (d ∷ ds) (s ∷ ss) = d ⊕ nearestTo s ⊗ h ∷ dptOf h ds ss
+
+-- on each axis from a on, the weight that the shift picks of the three
+abbrev pub picked : List (List Float) → ℕ → List ℕ → List Float
+picked wss a [] = []
+picked wss a (s ∷ ss) = getD (getD wss a []) s nan ∷ picked wss (suc a) ss
+
+-- w = wx·wy
+abbrev pub weightOf : List (List Float) → List ℕ → Float
+weightOf wss ss = product (picked wss 0 ss)
