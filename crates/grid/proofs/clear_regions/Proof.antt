@@ -8,7 +8,7 @@ use borrow.Author.Needs.{needs}
 use lib.ListN.{length}
 use Rattle.laws.specs.Store.{Store, store}
 use Rattle.laws.specs.Hits.{Hit, run, gather}
-use Rattle.laws.proofs.Hits.{run-none, run-more}
+use Rattle.laws.proofs.Hits.{run-none, run-left}
 use Rattle.grid.specs.Nodes.{nodes, regionCells}
 use Rattle.grid.specs.Clear.{emptied, clearedRegion, cleared}
 use Rattle.grid.specs.declared.grid_node.GridNode.{GridNode}
@@ -35,10 +35,6 @@ mul-clear-region c = omega (arith, c .before .before .before .before .pre .words
 clear-region-requires : tie.Need-clear-region-requires Inv-loop μ-loop
 clear-region-requires c κs = omega (arith, c .before .before .before .before .before .before .pre .floats-long, c .before .before .before .before .before .before .pre .words-long)
 
--- one region more
-turn : (n left : ℕ) (s t u : Store) → 0 < left → left ≤ n → t ≡ run nodes (gather hits (n - left)) s → u ≡ run nodes (hits (n - left)) t → u ≡ run nodes (gather hits (n - (left - 1))) s
-turn n left s t u p q e f = let i : n - left + 1 ≡ n - (left - 1) = omega arith in rw i at (run-more nodes hits (n - left) s e f)
-
 loop-again : tie.Need-loop-again Inv-loop μ-loop
 unfolding clearedRegion
 loop-again c =
@@ -46,7 +42,7 @@ loop-again c =
       omega arith,
       omega (arith, c .before .before .before .before .clear-region .kept),
       omega (arith, c .before .before .before .before .clear-region .kept),
-      turn (c .before .before .before .before .before .before .before .before .before .before .before .args .regions) (c .before .before .before .before .before .before .before .before .loop .left) _ _ _ (omega arith) (omega arith) (i .3) (c .before .before .before .before .clear-region .ensures),
+      run-left nodes hits (c .before .before .before .before .before .before .before .before .before .before .before .args .regions) (c .before .before .before .before .before .before .before .before .loop .left) _ _ _ (omega arith) (omega arith) (i .3) (c .before .before .before .before .clear-region .ensures),
     )
 
 returns : tie.Need-returns Inv-loop μ-loop
