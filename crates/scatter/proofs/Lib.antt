@@ -1,0 +1,4 @@
+pub mod Checking
+pub mod Hitting
+pub mod Reaching
+pub mod Scattering

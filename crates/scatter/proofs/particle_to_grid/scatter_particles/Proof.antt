@@ -1,0 +1,68 @@
+-- `scatter::particle_to_grid::scatter_particles` meets its contract: all particles but those left are scattered.
+-- Assumes nothing.
+use mathlib.Core.Path.{_≡_, _∙_}
+use Prim.Native.Nat.{ℕ, _+_, _*_, _-_, _≤_}
+use native.Mathlib.Omega.{arith}
+use borrow.Author.Needs.{needs}
+use lib.ListN.{length}
+use denote.Ref.{now}
+use Rattle.laws.specs.Store.{store, Holds}
+use Rattle.laws.specs.Hits.{run, gather}
+use Rattle.laws.proofs.Hits.{run-none, run-left}
+use Rattle.grid.specs.Nodes.{nodeForm, nodes, regionCells}
+use Rattle.particles.specs.Particles.{particleAt}
+use Rattle.scatter.specs.Hit.{axes}
+use Rattle.scatter.specs.Scatter.{particleHits, rangeHits}
+use Rattle.scatter.proofs.particle_to_grid.scatter_particles.Statement.{statement}
+use Rattle.scatter.proofs.particle_to_grid.scatter_particles.Tie as tie
+
+abbrev Inv-loop : tie.InvT-loop
+Inv-loop h dt gravity ids ranges pf pw start count nf₀ nw₀ left₀ nf nw left =
+    (left ≤ count) × Holds nodeForm (store nf nw) (length ids * regionCells)
+    × (store nf nw ≡ run nodes (gather (λ j. particleHits h dt (axes gravity) ids (particleAt (store pf pw) (start + j))) (count - left)) (store nf₀ nw₀))
+
+abbrev μ-loop : tie.MeasureT-loop
+μ-loop h dt gravity ids ranges pf pw start count nf₀ nw₀ left₀ nf nw left = left
+
+loop-holds : tie.Need-loop-holds Inv-loop μ-loop
+loop-holds c =
+    let n = c .before .before .before .before .before .before .args .count in
+    let e : n - n ≡ 0 = omega arith in
+    (omega arith, c .before .before .before .before .before .before .pre .1 .nodes-held, rw e (run-none nodes _ _))
+
+add-read-particle : tie.Need-add-read-particle Inv-loop μ-loop
+add-read-particle c = omega (arith, c .before .before .before .before .before .before .before .before .pre .0)
+
+read-particle-requires : tie.Need-read-particle-requires Inv-loop μ-loop
+read-particle-requires c κs =
+    let held = c .before .before .before .before .before .before .before .before .pre .1 .particles-held in
+    (omega (arith, c .before .before .before .before .before .before .before .before .pre .0), omega (arith, c .before .before .before .before .before .before .before .before .pre .0, held .floats-long, held .words-long))
+
+scatter-particle-requires : tie.Need-scatter-particle-requires Inv-loop μ-loop
+scatter-particle-requires c κs =
+    let ready = c .before .before .before .before .before .before .before .before .before .before .before .pre .1 in (
+      rw (c .before .before .read-particle .ensures) (ready .accepted .stencils _ (omega (arith, c .before .before .before .before .before .before .before .before .before .before .before .pre .0, ready .particles-held .floats-long))),
+      c .before .before .before .before .loop .inv .1,
+    )
+
+loop-again : tie.Need-loop-again Inv-loop μ-loop
+loop-again c =
+    let l = c .before .before .before .before .before .before .before .before .before .loop in
+    let kept = c .before .before .before .before .scatter-particle .kept in
+    let g = c .before .before .before .before .before .before .before .before .before .before .before .before .before .before .before .before .args in (
+      omega arith,
+      record { floats-long = omega (arith, l .inv .1 .floats-long, kept); words-long = omega (arith, l .inv .1 .words-long, kept) },
+      run-left nodes (λ j. particleHits (g .cell-width) (g .dt) (axes (g .gravity)) (now (g .ids)) (particleAt (store (now (g .pf)) (now (g .pw))) (g .start + j)))
+          (g .count) (l .left) _ _ _ (omega arith) (omega arith) (l .inv .2) (c .before .before .before .before .scatter-particle .ensures ∙ rw (c .before .before .before .before .before .before .before .read-particle .ensures)),
+    )
+
+returns : tie.Need-returns Inv-loop μ-loop
+unfolding rangeHits
+returns c =
+    let n = c .before .before .before .before .before .before .before .before .args .count in
+    let e : n - c .before .loop .left ≡ n = omega arith in
+    c .before .loop .inv .2 ∙ rw e
+
+pub scatter-particles-spec : {M : Type 1} → statement M
+scatter-particles-spec =
+    tie.close (tie.spec Inv-loop μ-loop loop-holds (λ c. search needs) add-read-particle read-particle-requires scatter-particle-requires (λ c. search needs) (λ c. search needs) loop-again (λ c. search needs) (λ c. search needs) returns)

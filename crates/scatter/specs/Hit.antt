@@ -1,0 +1,159 @@
+-- Document 01, "Scatter": what a particle brings to a node, and what becomes of the node. Vectors are lists, an entry an axis, and matrices lists of rows, so that the plane
+-- and space share each definition. Definitions only.
+use mathlib.Core.Bool.{Bool, cond, _&&_, not}
+use mathlib.Core.List.{List, [], _∷_, map}
+use Prim.Native.Nat.{ℕ}
+use lib.Dec.{eqb}
+use lib.Ieee.{Float, nan, lt, ne}
+use lib.ListN.{getD}
+use Rattle.numeric.specs.Bits.{_⊕_, _⊖_, _⊗_, none}
+use Rattle.numeric.specs.Kernel.{invD, dot, precomputeWeights}
+use Rattle.numeric.specs.Scalar.{inverse}
+use Rattle.numeric.specs.declared.dim2.Vector.{Vector}
+use Rattle.numeric.specs.declared.dim2.Matrix.{Matrix}
+use Rattle.cells.specs.Stencil.{dirToAssociatedGridNode, dptOf, weightOf}
+use Rattle.grid.specs.declared.grid_node.GridNode.{GridNode}
+use Rattle.particles.specs.declared.particle.Particle.{Particle}
+use Rattle.scatter.specs.declared.particle_to_grid.Contribution.{Contribution}
+
+-- ---- on any number of axes
+
+-- what is taken of a particle
+pub record Body : Type 0 where
+  pub position : List Float
+  pub velocity : List Float
+  pub gradient : List (List Float)
+  pub stress : List (List Float)
+  pub mass : Float
+  pub volume0 : Float
+  pub phase : Float
+  pub crack : Float
+  pub psi : Float
+  pub failed : Bool
+
+-- what it brings to each of its nodes
+pub record Brought : Type 0 where
+  pub mass : Float
+  pub momentum : List Float
+  pub affine : List (List Float)
+  pub psiMass : Float
+  pub psiMomentum : Float
+  pub dir : List Float
+
+-- the numbers of a node
+pub record Numbers : Type 0 where
+  pub mass : Float
+  pub momentum : List Float
+  pub velocity : List Float
+  pub psiMomentum : Float
+  pub psiMass : Float
+
+-- f of the entries of two lists, pair by pair
+abbrev pub pairwise : {A B C : Type 0} → (A → B → C) → List A → List B → List C
+pairwise f [] ys = []
+pairwise f (x ∷ xs) [] = []
+pairwise f (x ∷ xs) (y ∷ ys) = f x y ∷ pairwise f xs ys
+
+-- S, zero for a failed particle
+abbrev pub stressOf : Bool → List (List Float) → List (List Float)
+stressOf failed s = cond failed (map (map (λ (x : Float). none)) s) s
+
+-- A = m·G - ((V0·inv)·dt)·S
+abbrev pub affineOf : Float → Float → List (List Float) → List (List Float) → List (List Float)
+affineOf m c g s = pairwise (pairwise (λ (x y : Float). m ⊗ x ⊖ c ⊗ y)) g s
+
+-- k = m if phase > 0, crack factor nonzero and not failed, else 0
+abbrev pub psiMassOf : Body → Float
+psiMassOf q = cond (lt none (q .phase) && (ne (q .crack) none && not (q .failed))) (q .mass) none
+
+unfoldable pub brought : Float → Float → Body → Brought
+brought h dt q =
+    let k = psiMassOf q in
+    record {
+      mass = q .mass;
+      momentum = map (λ (v : Float). q .mass ⊗ v) (q .velocity);
+      affine = affineOf (q .mass) ((q .volume0 ⊗ invD h) ⊗ dt) (q .gradient) (stressOf (q .failed) (q .stress));
+      psiMass = k;
+      psiMomentum = k ⊗ q .psi;
+      dir = dirToAssociatedGridNode h (q .position);
+    }
+
+-- A·dpt
+abbrev pub applied : List (List Float) → List Float → List Float
+applied rows x = map (λ (row : List Float). dot row x) rows
+
+-- at each hit: mass += w·m; momentum += w·(A·dpt + m·v); psi mass += w·k; psi momentum += w·(k·psi); then velocity = (momentum + (mass·g)·dt)·inverse(mass)
+unfoldable pub hitBy : Float → Float → List Float → Brought → List ℕ → Numbers → Numbers
+hitBy h dt gravity b shift n =
+    let dpt = dptOf h (b .dir) shift in
+    let w = weightOf (precomputeWeights (b .dir) h) shift in
+    let mass = n .mass ⊕ w ⊗ b .mass in
+    let momentum = pairwise _⊕_ (n .momentum) (map (λ (p : Float). w ⊗ p) (pairwise _⊕_ (applied (b .affine) dpt) (b .momentum))) in
+    record {
+      mass = mass;
+      momentum = momentum;
+      velocity = pairwise (λ (p g : Float). (p ⊕ (mass ⊗ g) ⊗ dt) ⊗ inverse mass) momentum gravity;
+      psiMomentum = n .psiMomentum ⊕ w ⊗ b .psiMomentum;
+      psiMass = n .psiMass ⊕ w ⊗ b .psiMass;
+    }
+
+-- ---- in the plane
+
+abbrev pub axes : Vector → List Float
+axes v = v .x ∷ v .y ∷ []
+
+abbrev pub rows : Matrix → List (List Float)
+rows m = (m .m00 ∷ m .m01 ∷ []) ∷ (m .m10 ∷ m .m11 ∷ []) ∷ []
+
+abbrev pub vector : List Float → Vector
+vector xs = record { x = getD xs 0 nan; y = getD xs 1 nan }
+
+abbrev pub bodyOf : Particle → Body
+bodyOf q =
+    record {
+      position = q .position .x ∷ q .position .y ∷ [];
+      velocity = axes (q .velocity);
+      gradient = rows (q .«velocity_gradient»);
+      stress = rows (q .stress);
+      mass = q .mass;
+      volume0 = q .volume0;
+      phase = q .phase;
+      crack = q .«crack_propagation_factor»;
+      psi = q .«psi_pos»;
+      failed = not (eqb (q .failed) 0);
+    }
+
+abbrev pub numbersOf : GridNode → Numbers
+numbersOf n =
+    record { mass = n .mass; momentum = axes (n .momentum); velocity = axes (n .velocity); psiMomentum = n .«psi_momentum»; psiMass = n .«psi_mass» }
+
+-- the node with other numbers; its flag stays
+abbrev pub withNumbers : Numbers → GridNode → GridNode
+withNumbers a n =
+    record {
+      mass = a .mass;
+      momentum = vector (a .momentum);
+      velocity = vector (a .velocity);
+      «psi_momentum» = a .psiMomentum;
+      «psi_mass» = a .psiMass;
+      boundary = n .boundary;
+    }
+
+-- what the code keeps of a particle is what it brings
+abbrev pub broughtBy : Contribution → Brought
+broughtBy c =
+    record {
+      mass = c .mass;
+      momentum = axes (c .momentum);
+      affine = rows (c .affine);
+      psiMass = c .«psi_mass»;
+      psiMomentum = c .«psi_momentum»;
+      dir = axes (c .dir);
+    }
+
+-- what a hit makes of a node
+abbrev pub hitNode : Float → Float → List Float → Brought → List ℕ → GridNode → GridNode
+hitNode h dt gravity b shift n = withNumbers (hitBy h dt gravity b shift (numbersOf n)) n
+
+unfoldable pub changed : Float → Float → List Float → Particle → List ℕ → GridNode → GridNode
+changed h dt gravity q shift n = hitNode h dt gravity (brought h dt (bodyOf q)) shift n

@@ -1,0 +1,125 @@
+-- Document 01, "Scatter": colours 0 to 3, regions in list order, particles in order, stencil in order; and the same of one region. What a call is refused for, in the order of
+-- the table. Definitions, and what is proved of them.
+-- Assumes nothing.
+use mathlib.Core.Path.{_≡_}
+use mathlib.Core.Bool.{true, cond}
+use mathlib.Core.List.{List, [], _∷_, _++_}
+use Prim.Native.Nat.{ℕ, _+_, _*_, _^_, _<_}
+use lib.Dec.{ltb}
+use lib.Ieee.{Float}
+use lib.ListN.{length, getD}
+use Rattle.packing.specs.Ids.{dim2, region, number, inColour, stencilOf}
+use Rattle.laws.specs.Store.{Store, Holds}
+use Rattle.laws.specs.Hits.{Hit, Within, only, run, gather}
+use Rattle.cells.specs.Cells.{cellAssociatedToPoint}
+use Rattle.cells.specs.Lookup.{lookup}
+use Rattle.cells.specs.Stencil.{stencilCells, shiftAt}
+use Rattle.cells.specs.declared.Found.{Found}
+use Rattle.cells.specs.declared.Found.the-variants.{At, Absent}
+use Rattle.grid.specs.Answers.{first}
+use Rattle.grid.specs.Nodes.{nodeForm, nodeAt, nodes, regionCells, nodeFloats, nodeWords}
+use Rattle.grid.specs.Table.{all, finite, goodWidth, goodStep, lengths, nodeLengths, limits, settings, codes, rangeWords, startOf, countOf}
+use Rattle.grid.specs.declared.Answer.{Answer}
+use Rattle.grid.specs.declared.grid_node.GridNode.{GridNode}
+use Rattle.particles.specs.Particles.{particleForm, particleAt, positionOf}
+use Rattle.particles.specs.Table.{particleLengths, listed, checked, Accepted}
+use Rattle.particles.specs.declared.particle.Particle.{Particle}
+use Rattle.scatter.specs.Hit.{changed}
+
+-- ---- the hits
+
+-- a hit on the node of a cell: 16 nodes for each listed region, by the cell's number in its region; a region that is not listed has none
+abbrev pub onNode : Found → ℕ → (GridNode → GridNode) → List (Hit GridNode)
+onNode (At r) cell change = record { at = r * regionCells + number dim2 cell; change = change } ∷ []
+onNode Absent cell change = []
+
+-- the colours: two along each axis
+abbrev pub colours : ℕ
+colours = 2 ^ 2
+
+module _ (h dt : Float) (gravity : List Float) (ids : List ℕ) where
+  -- of a particle, on the k-th cell of its stencil
+  unfoldable pub shiftHits : Particle → ℕ → List (Hit GridNode)
+  shiftHits q k =
+      let cell = getD (stencilOf dim2 (cellAssociatedToPoint dim2 h (positionOf q))) k 0 in
+      onNode (lookup ids (region cell)) cell (changed h dt gravity q (shiftAt dim2 k))
+
+  -- of a particle: the stencil in order
+  unfoldable pub particleHits : Particle → List (Hit GridNode)
+  particleHits q = gather (shiftHits q) stencilCells
+
+  -- of n particles from p on, in order
+  unfoldable pub rangeHits : Store → ℕ → ℕ → List (Hit GridNode)
+  rangeHits particles p n = gather (λ j. particleHits (particleAt particles (p + j))) n
+
+  module _ (ranges : List ℕ) (particles : Store) where
+    -- of the region at a place: its particles
+    unfoldable pub regionHits : ℕ → List (Hit GridNode)
+    regionHits r = rangeHits particles (startOf ranges r) (countOf ranges r)
+
+    -- of the region at a place, where it has the colour
+    unfoldable pub colouredHits : ℕ → ℕ → List (Hit GridNode)
+    colouredHits c r = cond (inColour dim2 (getD ids r 0) c) (regionHits r) []
+
+    -- of a colour: its regions, in list order
+    unfoldable pub colourHits : ℕ → List (Hit GridNode)
+    colourHits c = gather (colouredHits c) (length ids)
+
+    -- of all: colours 0 to 3
+    unfoldable pub scatterHits : List (Hit GridNode)
+    scatterHits = gather colourHits colours
+
+    -- what full scatter makes of the nodes, and what one region's does
+    unfoldable pub scattered : Store → Store
+    scattered s = run nodes scatterHits s
+
+    unfoldable pub regionScattered : ℕ → Store → Store
+    regionScattered r s = run nodes (regionHits r) s
+
+-- ---- what a call is refused for
+
+-- 1 to 10; of the nodes, only how many floats and words there are. `own` is what is found of the call's own settings in 4, ahead of records; full scatter has none.
+unfoldable pub scatterCheck : Answer → Float → Float → List Float → ℕ → List ℕ → List ℕ → ℕ → Store → ℕ → ℕ → Answer
+scatterCheck own h dt gravity regions ids ranges count particles nf nw =
+    first (
+    lengths ((length ids, regions) ∷ (length ranges, regions * rangeWords) ∷ particleLengths count (length (particles .floats)) (length (particles .words)) ++ nodeLengths regions nf nw)
+    ∷ limits regions count 0
+    ∷ settings (goodWidth h ∷ goodStep dt ∷ all finite gravity ∷ [])
+    ∷ own
+    ∷ checked h ids ranges particles count
+    ∷ []
+    )
+
+-- one region's scatter has its place
+abbrev pub placeCheck : ℕ → ℕ → Answer
+placeCheck place regions = codes (ltb place regions ∷ [])
+
+-- every region of a particle's stencil is listed
+abbrev pub Reached : Float → List ℕ → Particle → Type 0
+Reached h ids q = all (listed ids) (stencilOf dim2 (cellAssociatedToPoint dim2 h (positionOf q))) ≡ true
+
+-- ---- what is proved where nothing is refused: what the hits build on
+
+pub record Ready (h : Float) (ids ranges : List ℕ) (particles s : Store) : Type 0 where
+  pub count : ℕ
+  pub ranges-long : length ranges ≡ length ids * rangeWords
+  pub particles-held : Holds particleForm particles count
+  pub nodes-held : Holds nodeForm s (length ids * regionCells)
+  pub accepted : Accepted h ids ranges particles count
+
+-- ---- what is proved of the hits of full scatter, and of those of one region
+
+pub record Laws (hits : List (Hit GridNode)) (n : ℕ) (s : Store) : Type 0 where
+  -- A node that no hit reaches keeps every bit.
+  pub untouched : (k : ℕ) → only k hits ≡ [] → nodeAt (run nodes hits s) k ≡ nodeAt s k
+  -- Any order of the hits that keeps the order of every two on one place leaves the same nodes.
+  pub reordered : (others : List (Hit GridNode)) → Within n others → ((k : ℕ) → k < n → only k others ≡ only k hits) → run nodes others s ≡ run nodes hits s
+  -- There are as many nodes as before.
+  pub held : Holds nodeForm (run nodes hits s) n
+
+-- Acceptance depends on the nodes only through the slices' lengths.
+pub record Acceptance : Type 0 where
+  pub by-lengths : (own : Answer) (h dt : Float) (gravity : List Float) (regions : ℕ) (ids ranges : List ℕ) (count : ℕ) (particles s t : Store)
+      → length (s .floats) ≡ length (t .floats) → length (s .words) ≡ length (t .words)
+      → scatterCheck own h dt gravity regions ids ranges count particles (length (s .floats)) (length (s .words))
+      ≡ scatterCheck own h dt gravity regions ids ranges count particles (length (t .floats)) (length (t .words))

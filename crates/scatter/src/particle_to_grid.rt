@@ -1,0 +1,440 @@
+// Scatter, of all regions colour by colour, and of one region.
+ghost use mathlib.Core.Path.{_≡_};
+ghost use mathlib.Core.Bool.{true};
+ghost use mathlib.Core.List.{[], _∷_};
+ghost use Prim.Native.Nat.{_+_, _*_, _≤_, _<_};
+ghost use lib.ListN.{length};
+ghost use Rattle.packing.specs.Ids.{dim2, region, number};
+ghost use Rattle.numeric.specs.Bits.{_⊗_};
+ghost use Rattle.numeric.specs.Kernel.{invD, precomputeWeights};
+ghost use Rattle.laws.specs.Store.{store, Holds};
+ghost use Rattle.laws.specs.Hits.{run};
+ghost use Rattle.laws.specs.Refusals.{settle};
+ghost use Rattle.cells.specs.Lookup.{lookup};
+ghost use Rattle.grid.specs.Answers.{refused};
+ghost use Rattle.grid.specs.declared.Answer.the-variants.{Done};
+ghost use Rattle.grid.specs.Nodes.{nodeForm, nodes, regionCells};
+ghost use Rattle.grid.specs.Table.{rangeWords, startOf, countOf};
+ghost use Rattle.particles.specs.Particles.{particleFloats};
+ghost use Rattle.particles.specs.Table.{listed};
+ghost use Rattle.scatter.specs.Hit.{axes, rows, stressOf, affineOf, psiMassOf, bodyOf, brought, broughtBy, hitNode};
+ghost use Rattle.scatter.specs.Scatter.{onNode, particleHits, rangeHits, colouredHits, colourHits, scatterHits, scattered, regionScattered, scatterCheck, placeCheck, Reached, Ready};
+use crate::inner::check_scatter;
+use cells::Found;
+use cells::inner::STENCIL_CELLS;
+use cells::inner::dir_to_associated_grid_node;
+use cells::inner::dpt;
+use cells::inner::nbh_shift;
+use cells::inner::weight;
+use grid::Answer;
+use grid::Rule;
+use grid::grid_node::CELLS_OF_REGION;
+use grid::grid_node::GridNode;
+use grid::inner::RANGE_WORDS;
+use grid::inner::read_node;
+use grid::inner::write_node;
+use numeric::dim2::Matrix;
+use numeric::dim2::Vector;
+use numeric::inv_exact;
+use packing::dim2::Cell;
+use particles::inner::read_particle;
+use particles::particle::Particle;
+
+// The regions' colours, two along each axis.
+const COLORS: u64 = 4;
+
+// What a particle brings to each node of its stencil.
+struct Contribution {
+    mass: f32,
+    momentum: Vector,
+    affine: Matrix,
+    psi_mass: f32,
+    psi_momentum: f32,
+    dir: Vector,
+}
+
+// Every region's particles, colours 0 to 3 and regions in the list's order; or the call is refused, and nothing changes.
+pub fn particle_to_grid_scatter(
+    cell_width: f32,
+    dt: f32,
+    gravity: Vector,
+    regions: usize,
+    ids: &[u64],
+    ranges: &[u64],
+    particles: usize,
+    pf: &[f32],
+    pw: &[u32],
+    nf: &mut [f32],
+    nw: &mut [u32],
+) -> Answer
+    ensures { λ a. ⌜ (a ≡ scatterCheck Done «cell_width» dt (axes gravity) regions (now (ids .entry)) (now (ranges .entry)) particles (store (now (pf .entry)) (now (pw .entry))) (length (now (nf .entry))) (length (now (nw .entry))))
+        × (store (now (nf .exit)) (now (nw .exit)) ≡ settle (refused a) (store (now (nf .entry)) (now (nw .entry))) (scattered «cell_width» dt (axes gravity) (now (ids .entry)) (now (ranges .entry)) (store (now (pf .entry)) (now (pw .entry))) (store (now (nf .entry)) (now (nw .entry))))) ⌝ }
+{
+    let a = check_scatter(
+        Answer::Done,
+        cell_width,
+        dt,
+        gravity,
+        regions,
+        ids,
+        ranges,
+        particles,
+        pf,
+        pw,
+        nf.len(),
+        nw.len(),
+    );
+    let Answer::Done = a else {
+        return a;
+    };
+    scatter_colors(cell_width, dt, gravity, ids, ranges, pf, pw, nf, nw);
+    Answer::Done
+}
+
+// The particles of the region at a place of the list, on every listed node that they hit; or the call is refused, and nothing changes.
+pub fn particle_to_grid_scatter_region(
+    place: usize,
+    cell_width: f32,
+    dt: f32,
+    gravity: Vector,
+    regions: usize,
+    ids: &[u64],
+    ranges: &[u64],
+    particles: usize,
+    pf: &[f32],
+    pw: &[u32],
+    nf: &mut [f32],
+    nw: &mut [u32],
+) -> Answer
+    ensures { λ a. ⌜ (a ≡ scatterCheck (placeCheck place regions) «cell_width» dt (axes gravity) regions (now (ids .entry)) (now (ranges .entry)) particles (store (now (pf .entry)) (now (pw .entry))) (length (now (nf .entry))) (length (now (nw .entry))))
+        × (store (now (nf .exit)) (now (nw .exit)) ≡ settle (refused a) (store (now (nf .entry)) (now (nw .entry))) (regionScattered «cell_width» dt (axes gravity) (now (ids .entry)) (now (ranges .entry)) (store (now (pf .entry)) (now (pw .entry))) place (store (now (nf .entry)) (now (nw .entry))))) ⌝ }
+{
+    let a = check_scatter(
+        check_place(place, regions),
+        cell_width,
+        dt,
+        gravity,
+        regions,
+        ids,
+        ranges,
+        particles,
+        pf,
+        pw,
+        nf.len(),
+        nw.len(),
+    );
+    let Answer::Done = a else {
+        return a;
+    };
+    let start = start_of(ranges, place);
+    let count = count_of(ranges, place);
+    scatter_particles(
+        cell_width,
+        dt,
+        gravity,
+        ids,
+        ranges,
+        pf,
+        pw,
+        start,
+        count,
+        nf,
+        nw,
+    );
+    Answer::Done
+}
+
+fn check_place(place: usize, regions: usize) -> Answer
+    ensures { λ a. ⌜ a ≡ placeCheck place regions ⌝ }
+{
+    if place < regions {
+        return Answer::Done;
+    }
+    Answer::Refused(Rule::Code, 0)
+}
+
+fn scatter_colors(
+    cell_width: f32,
+    dt: f32,
+    gravity: Vector,
+    ids: &[u64],
+    ranges: &[u64],
+    pf: &[f32],
+    pw: &[u32],
+    nf: &mut [f32],
+    nw: &mut [u32],
+)
+    requires { ⌜ Ready «cell_width» (now ids) (now ranges) (store (now pf) (now pw)) (store (now nf) (now nw)) ⌝ }
+    ensures { λ _. ⌜ store (now (nf .exit)) (now (nw .exit)) ≡ run nodes (scatterHits «cell_width» dt (axes gravity) (now (ids .entry)) (now (ranges .entry)) (store (now (pf .entry)) (now (pw .entry)))) (store (now (nf .entry)) (now (nw .entry))) ⌝ }
+{
+    let mut color = 0;
+    while color < COLORS {
+        scatter_color(cell_width, dt, gravity, ids, ranges, pf, pw, color, nf, nw);
+        color += 1;
+    }
+}
+
+// The regions of one colour.
+fn scatter_color(
+    cell_width: f32,
+    dt: f32,
+    gravity: Vector,
+    ids: &[u64],
+    ranges: &[u64],
+    pf: &[f32],
+    pw: &[u32],
+    color: u64,
+    nf: &mut [f32],
+    nw: &mut [u32],
+)
+    requires { ⌜ Ready «cell_width» (now ids) (now ranges) (store (now pf) (now pw)) (store (now nf) (now nw)) ⌝ }
+    ensures { λ _. ⌜ store (now (nf .exit)) (now (nw .exit)) ≡ run nodes (colourHits «cell_width» dt (axes gravity) (now (ids .entry)) (now (ranges .entry)) (store (now (pf .entry)) (now (pw .entry))) color) (store (now (nf .entry)) (now (nw .entry))) ⌝ }
+{
+    let mut r = 0;
+    while r < ids.len() {
+        scatter_colored(
+            cell_width,
+            dt,
+            gravity,
+            ids,
+            ranges,
+            pf,
+            pw,
+            color,
+            r,
+            nf,
+            nw,
+        );
+        r += 1;
+    }
+}
+
+// The region at a place, where it has the colour.
+fn scatter_colored(
+    cell_width: f32,
+    dt: f32,
+    gravity: Vector,
+    ids: &[u64],
+    ranges: &[u64],
+    pf: &[f32],
+    pw: &[u32],
+    color: u64,
+    place: usize,
+    nf: &mut [f32],
+    nw: &mut [u32],
+)
+    requires { ⌜ (place < length (now ids)) × Ready «cell_width» (now ids) (now ranges) (store (now pf) (now pw)) (store (now nf) (now nw)) ⌝ }
+    ensures { λ _. ⌜ store (now (nf .exit)) (now (nw .exit)) ≡ run nodes (colouredHits «cell_width» dt (axes gravity) (now (ids .entry)) (now (ranges .entry)) (store (now (pf .entry)) (now (pw .entry))) color place) (store (now (nf .entry)) (now (nw .entry))) ⌝ }
+{
+    let id = ids[place];
+    if !packing::dim2::is_in_region_with_color(id, color) {
+        return;
+    }
+    let first = start_of(ranges, place);
+    let number = count_of(ranges, place);
+    scatter_particles(
+        cell_width,
+        dt,
+        gravity,
+        ids,
+        ranges,
+        pf,
+        pw,
+        first,
+        number,
+        nf,
+        nw,
+    );
+}
+
+// Where a region's particles begin, and how many they are.
+fn start_of(ranges: &[u64], place: usize) -> usize
+    requires { ⌜ place * rangeWords + rangeWords ≤ length (now ranges) ⌝ }
+    ensures { λ r. ⌜ r ≡ startOf (now (ranges .entry)) place ⌝ }
+{
+    ranges[place * RANGE_WORDS] as usize
+}
+
+fn count_of(ranges: &[u64], place: usize) -> usize
+    requires { ⌜ place * rangeWords + rangeWords ≤ length (now ranges) ⌝ }
+    ensures { λ r. ⌜ r ≡ countOf (now (ranges .entry)) place ⌝ }
+{
+    ranges[place * RANGE_WORDS + 1] as usize
+}
+
+// `count` particles from `start` on.
+fn scatter_particles(
+    cell_width: f32,
+    dt: f32,
+    gravity: Vector,
+    ids: &[u64],
+    ranges: &[u64],
+    pf: &[f32],
+    pw: &[u32],
+    start: usize,
+    count: usize,
+    nf: &mut [f32],
+    nw: &mut [u32],
+)
+    requires { ⌜ ((start + count) * particleFloats ≤ length (now pf)) × Ready «cell_width» (now ids) (now ranges) (store (now pf) (now pw)) (store (now nf) (now nw)) ⌝ }
+    ensures { λ _. ⌜ store (now (nf .exit)) (now (nw .exit)) ≡ run nodes (rangeHits «cell_width» dt (axes gravity) (now (ids .entry)) (store (now (pf .entry)) (now (pw .entry))) start count) (store (now (nf .entry)) (now (nw .entry))) ⌝ }
+{
+    let mut left = count;
+    while 0 < left {
+        let q = read_particle(pf, pw, start + (count - left));
+        scatter_particle(cell_width, dt, gravity, ids, q, nf, nw);
+        left -= 1;
+    }
+}
+
+// One particle, on the nine nodes of its stencil.
+fn scatter_particle(
+    cell_width: f32,
+    dt: f32,
+    gravity: Vector,
+    ids: &[u64],
+    q: Particle,
+    nf: &mut [f32],
+    nw: &mut [u32],
+)
+    requires { ⌜ Reached «cell_width» (now ids) q × Holds nodeForm (store (now nf) (now nw)) (length (now ids) * regionCells) ⌝ }
+    ensures { λ _. ⌜ store (now (nf .exit)) (now (nw .exit)) ≡ run nodes (particleHits «cell_width» dt (axes gravity) (now (ids .entry)) q) (store (now (nf .entry)) (now (nw .entry))) ⌝ }
+{
+    let c = contribution_of(cell_width, dt, q);
+    let w = numeric::dim2::precompute_weights(c.dir, cell_width);
+    let stencil = packing::dim2::stencil(cells::dim2::cell_associated_to_point(
+        cell_width,
+        q.position,
+    ));
+    let mut left = STENCIL_CELLS;
+    while 0 < left {
+        let k = STENCIL_CELLS - left;
+        hit(
+            cell_width,
+            dt,
+            gravity,
+            ids,
+            stencil[k],
+            c,
+            w,
+            nbh_shift(k),
+            nf,
+            nw,
+        );
+        left -= 1;
+    }
+}
+
+// One node. Its region is listed, as the check has shown.
+fn hit(
+    cell_width: f32,
+    dt: f32,
+    gravity: Vector,
+    ids: &[u64],
+    cell_id: u64,
+    c: Contribution,
+    w: [[f32; 3]; 2],
+    shift: Cell,
+    nf: &mut [f32],
+    nw: &mut [u32],
+)
+    requires { ⌜ (listed (now ids) «cell_id» ≡ true) × (number dim2 «cell_id» < regionCells) × (w ≡ precomputeWeights (axes (c .dir)) «cell_width») × (shift .x < 3) × (shift .y < 3)
+        × Holds nodeForm (store (now nf) (now nw)) (length (now ids) * regionCells) ⌝ }
+    ensures { λ _. ⌜ store (now (nf .exit)) (now (nw .exit)) ≡ run nodes (onNode (lookup (now (ids .entry)) (region «cell_id»)) «cell_id» (hitNode «cell_width» dt (axes gravity) (broughtBy c) (shift .x ∷ shift .y ∷ []))) (store (now (nf .entry)) (now (nw .entry))) ⌝ }
+{
+    let Found::At(place) = cells::lookup(ids, packing::region_of(cell_id)) else {
+        return;
+    };
+    let k = place * CELLS_OF_REGION + packing::dim2::number_in_region(cell_id) as usize;
+    let n = read_node(nf, nw, k);
+    write_node(nf, nw, k, change(cell_width, dt, gravity, c, w, shift, n));
+}
+
+// What a hit makes of a node.
+fn change(
+    cell_width: f32,
+    dt: f32,
+    gravity: Vector,
+    c: Contribution,
+    w: [[f32; 3]; 2],
+    shift: Cell,
+    n: GridNode,
+) -> GridNode
+    requires { ⌜ (w ≡ precomputeWeights (axes (c .dir)) «cell_width») × (shift .x < 3) × (shift .y < 3) ⌝ }
+    ensures { λ r. ⌜ r ≡ hitNode «cell_width» dt (axes gravity) (broughtBy c) (shift .x ∷ shift .y ∷ []) n ⌝ }
+{
+    let dpt = dpt(cell_width, c.dir, shift);
+    let weight = weight(w, shift);
+    let mass = n.mass + weight * c.mass;
+    let momentum = Vector {
+        x: n.momentum.x + weight * ((c.affine.m00 * dpt.x + c.affine.m01 * dpt.y) + c.momentum.x),
+        y: n.momentum.y + weight * ((c.affine.m10 * dpt.x + c.affine.m11 * dpt.y) + c.momentum.y),
+    };
+    let inv = inv_exact(mass);
+    GridNode {
+        mass: mass,
+        momentum: momentum,
+        velocity: Vector {
+            x: (momentum.x + (mass * gravity.x) * dt) * inv,
+            y: (momentum.y + (mass * gravity.y) * dt) * inv,
+        },
+        psi_momentum: n.psi_momentum + weight * c.psi_momentum,
+        psi_mass: n.psi_mass + weight * c.psi_mass,
+        boundary: n.boundary,
+    }
+}
+
+fn contribution_of(cell_width: f32, dt: f32, q: Particle) -> Contribution
+    ensures { λ r. ⌜ broughtBy r ≡ brought «cell_width» dt (bodyOf q) ⌝ }
+{
+    let psi_mass = psi_mass_of(q);
+    Contribution {
+        mass: q.mass,
+        momentum: Vector {
+            x: q.mass * q.velocity.x,
+            y: q.mass * q.velocity.y,
+        },
+        affine: affine_of(cell_width, dt, q),
+        psi_mass: psi_mass,
+        psi_momentum: psi_mass * q.psi_pos,
+        dir: dir_to_associated_grid_node(cell_width, q.position),
+    }
+}
+
+fn affine_of(cell_width: f32, dt: f32, q: Particle) -> Matrix
+    ensures { λ r. ⌜ rows r ≡ affineOf (q .mass) ((q .volume0 ⊗ invD «cell_width») ⊗ dt) (rows (q .«velocity_gradient»)) (stressOf (bodyOf q .failed) (rows (q .stress))) ⌝ }
+{
+    let scale = q.volume0 * numeric::kernel::inv_d(cell_width) * dt;
+    let stress = stress_of(q);
+    Matrix {
+        m00: q.mass * q.velocity_gradient.m00 - scale * stress.m00,
+        m01: q.mass * q.velocity_gradient.m01 - scale * stress.m01,
+        m10: q.mass * q.velocity_gradient.m10 - scale * stress.m10,
+        m11: q.mass * q.velocity_gradient.m11 - scale * stress.m11,
+    }
+}
+
+// A failed particle has no stress.
+fn stress_of(q: Particle) -> Matrix
+    ensures { λ r. ⌜ rows r ≡ stressOf (bodyOf q .failed) (rows (q .stress)) ⌝ }
+{
+    if q.failed == 0 {
+        return q.stress;
+    }
+    Matrix {
+        m00: 0.0,
+        m01: 0.0,
+        m10: 0.0,
+        m11: 0.0,
+    }
+}
+
+// Only a particle that can crack brings psi.
+fn psi_mass_of(q: Particle) -> f32
+    ensures { λ r. ⌜ r ≡ psiMassOf (bodyOf q) ⌝ }
+{
+    if (0.0 < q.phase) & ((q.crack_propagation_factor != 0.0) & (q.failed == 0)) {
+        return q.mass;
+    }
+    0.0
+}
