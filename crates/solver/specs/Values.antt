@@ -1,0 +1,61 @@
+-- An input that the calls accept, by computing their definitions: three regions, of which the first and the last have one colour, and a particle in each; the first
+-- particle stands at its region's edge, so that it and the second hit a common node. Computing goes through packing's definitions. Assumes nothing.
+use mathlib.Core.List.{List, [], _∷_, _++_, map}
+use mathlib.Core.Path.{_≡_, refl}
+use Prim.Native.Nat.{ℕ, zero, suc}
+use lib.Ieee.{Float, binary32, lt, le, round, toUnsigned, div, ofBits}
+use lib.ListN.{length}
+use Rattle.packing.specs.Mask.{coord, place, count, coords, packed, sums, sumOf}
+use Rattle.packing.specs.Ids.{dim2, packedId, sum, region, number, fromFours, colour, packedShifts, stencilOf}
+use Rattle.numeric.specs.Bits.{none, one, four}
+use Rattle.numeric.specs.Round.{roundAway}
+use Rattle.laws.specs.Store.{Store, store}
+use Rattle.laws.specs.Hits.{only, gather}
+use Rattle.laws.specs.Refusals as Refusals
+use Rattle.cells.specs.Cells.{cellAssociatedToPoint, regionAssociatedToPoint}
+use Rattle.cells.specs.Lookup.{halved, narrowed, left, searched, lookup}
+use Rattle.grid.specs.Table.{finite, goodWidth, goodStep, badRegion, regionIds, before, misplaced, cover}
+use Rattle.grid.specs.declared.Answer.the-variants.{Done, Refused}
+use Rattle.grid.specs.declared.Rule.the-variants.{Length, Code}
+use Rattle.particles.specs.Particles.{particleAt}
+use Rattle.particles.specs.Table.{badFlag, notFinite, onAxis, offGrid, outOfRegion, unlisted, judged, firstParticle, outOfRegions, placed, checked}
+use Rattle.scatter.specs.Scatter.{shiftHits, particleHits, rangeHits, regionHits, colouredHits, colourHits, scatterCheck, placeCheck}
+use Rattle.solver.specs.Order.{repeated, outOfTurn, turns, orderCheck}
+
+abbrev many : ℕ → Float → List Float
+many zero x = []
+many (suc n) x = x ∷ many n x
+
+-- h = 1: a particle at (x, 1) that has mass 1 and nothing else
+abbrev at : Float → List Float
+at x = x ∷ one ∷ many 10 none ++ (one ∷ many 13 none)
+
+-- at (4, 1), (5, 1) and (9, 1), so with first cells (3, 0), (4, 0) and (8, 0)
+abbrev particles : Store
+particles = store (at four ++ (at (ofBits binary32 0x40a00000) ++ at (ofBits binary32 0x41100000))) (0 ∷ 0 ∷ 0 ∷ 0 ∷ 0 ∷ 0 ∷ 0 ∷ 0 ∷ 0 ∷ 0 ∷ 0 ∷ 0 ∷ [])
+
+-- the regions of the cells (0, 0), (4, 0) and (8, 0)
+abbrev ids : List ℕ
+ids = 0 ∷ 4096 ∷ 16384 ∷ []
+
+abbrev ranges : List ℕ
+ranges = 0 ∷ 1 ∷ 1 ∷ 1 ∷ 2 ∷ 1 ∷ []
+
+abbrev still : List Float
+still = none ∷ none ∷ []
+
+pub record Values : Type 0 where
+  -- the first and the last region have one colour
+  pub colours : map (colour dim2) ids ≡ 0 ∷ 1 ∷ 0 ∷ []
+  -- full scatter accepts it, and so does one region's, of each place; of none beyond
+  pub accepted : scatterCheck Done one one still 3 ids ranges 3 particles 336 48 ≡ Done
+  pub regions : map (λ (place : ℕ). scatterCheck (placeCheck place 3) one one still 3 ids ranges 3 particles 336 48) (0 ∷ 1 ∷ 2 ∷ 3 ∷ []) ≡ Done ∷ Done ∷ Done ∷ Refused Code 0 ∷ []
+  -- and both orders in which colours come in turn; not one that goes back to a colour, nor a place twice, nor none, nor a place too few
+  pub orders : map (λ (order : List ℕ). orderCheck order one one still 3 ids ranges 3 particles 336 48) ((0 ∷ 2 ∷ 1 ∷ []) ∷ (2 ∷ 0 ∷ 1 ∷ []) ∷ (0 ∷ 1 ∷ 2 ∷ []) ∷ (0 ∷ 0 ∷ 1 ∷ []) ∷ (3 ∷ 0 ∷ 1 ∷ []) ∷ (0 ∷ 2 ∷ []) ∷ [])
+      ≡ Done ∷ Done ∷ Refused Code 2 ∷ Refused Code 1 ∷ Refused Code 0 ∷ Refused Length 0 ∷ []
+  -- the node of the cell (4, 0), at place 16, is hit by a region of colour 0 and by one of colour 1
+  pub shared : map (λ (c : ℕ). length (only 16 (colourHits one one still ids ranges particles c))) (0 ∷ 1 ∷ 2 ∷ 3 ∷ []) ≡ 1 ∷ 1 ∷ 0 ∷ 0 ∷ []
+
+pub values : Values
+unfolding scatterCheck orderCheck turns outOfTurn repeated checked placed judged firstParticle outOfRegions badFlag notFinite onAxis offGrid outOfRegion unlisted particleAt finite goodWidth goodStep badRegion regionIds before misplaced cover Refusals.firstOf cellAssociatedToPoint regionAssociatedToPoint lookup searched left narrowed halved shiftHits particleHits rangeHits regionHits colouredHits colourHits only gather packedId packed place sum sumOf sums coords coord count dim2 region number fromFours colour packedShifts stencilOf roundAway round toUnsigned lt le div ofBits
+values = record { colours = refl; accepted = refl; regions = refl; orders = refl; shared = refl }

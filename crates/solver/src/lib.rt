@@ -1,0 +1,187 @@
+// The calls in sequence.
+ghost use mathlib.Core.Path.{_≡_};
+ghost use Prim.Native.Nat.{_<_};
+ghost use lib.ListN.{length};
+ghost use Rattle.packing.specs.Ids.{dim2, colour};
+ghost use Rattle.laws.specs.Store.{store};
+ghost use Rattle.laws.specs.Refusals.{settle};
+ghost use Rattle.grid.specs.Answers.{refused};
+ghost use Rattle.grid.specs.declared.Answer.the-variants.{Done};
+ghost use Rattle.scatter.specs.Hit.{axes};
+ghost use Rattle.scatter.specs.Scatter.{scatterCheck, scattered};
+ghost use Rattle.solver.specs.Order.{colourAt, repeated, outOfTurn, turns, orderCheck, inOrder};
+use grid::Answer;
+use grid::Rule;
+use numeric::dim2::Vector;
+use scatter::inner::check_scatter;
+use scatter::particle_to_grid::particle_to_grid_scatter_region;
+
+// The regions one by one, in an order of their places: each once, colours 0 to 3 in turn. It leaves what the full scatter leaves; or the call is refused, and nothing changes.
+pub fn scatter_in_order(
+    order: &[u64],
+    cell_width: f32,
+    dt: f32,
+    gravity: Vector,
+    regions: usize,
+    ids: &[u64],
+    ranges: &[u64],
+    particles: usize,
+    pf: &[f32],
+    pw: &[u32],
+    nf: &mut [f32],
+    nw: &mut [u32],
+) -> Answer
+    ensures { λ a. ⌜ (a ≡ orderCheck (now (order .entry)) «cell_width» dt (axes gravity) regions (now (ids .entry)) (now (ranges .entry)) particles (store (now (pf .entry)) (now (pw .entry))) (length (now (nf .entry))) (length (now (nw .entry))))
+        × (store (now (nf .exit)) (now (nw .exit)) ≡ settle (refused a) (store (now (nf .entry)) (now (nw .entry))) (scattered «cell_width» dt (axes gravity) (now (ids .entry)) (now (ranges .entry)) (store (now (pf .entry)) (now (pw .entry))) (store (now (nf .entry)) (now (nw .entry))))) ⌝ }
+{
+    if order.len() != regions {
+        return Answer::Refused(Rule::Length, 0);
+    }
+    let a = check_scatter(
+        check_order(order, ids),
+        cell_width,
+        dt,
+        gravity,
+        regions,
+        ids,
+        ranges,
+        particles,
+        pf,
+        pw,
+        nf.len(),
+        nw.len(),
+    );
+    let Answer::Done = a else {
+        return a;
+    };
+    scatter_regions(
+        order,
+        cell_width,
+        dt,
+        gravity,
+        regions,
+        ids,
+        ranges,
+        particles,
+        pf,
+        pw,
+        nf,
+        nw,
+    );
+    Answer::Done
+}
+
+// The calls, of which none is refused.
+fn scatter_regions(
+    order: &[u64],
+    cell_width: f32,
+    dt: f32,
+    gravity: Vector,
+    regions: usize,
+    ids: &[u64],
+    ranges: &[u64],
+    particles: usize,
+    pf: &[f32],
+    pw: &[u32],
+    nf: &mut [f32],
+    nw: &mut [u32],
+)
+    requires { ⌜ orderCheck (now order) «cell_width» dt (axes gravity) regions (now ids) (now ranges) particles (store (now pf) (now pw)) (length (now nf)) (length (now nw)) ≡ Done ⌝ }
+    ensures { λ _. ⌜ store (now (nf .exit)) (now (nw .exit)) ≡ inOrder «cell_width» dt (axes gravity) (now (ids .entry)) (now (ranges .entry)) (store (now (pf .entry)) (now (pw .entry))) (now (order .entry)) (length (now (order .entry))) (store (now (nf .entry)) (now (nw .entry))) ⌝ }
+{
+    let mut i = 0;
+    while i < order.len() {
+        let place = order[i] as usize;
+        let a = particle_to_grid_scatter_region(
+            place,
+            cell_width,
+            dt,
+            gravity,
+            regions,
+            ids,
+            ranges,
+            particles,
+            pf,
+            pw,
+            nf,
+            nw,
+        );
+        let Answer::Done = a else {
+            return;
+        };
+        i += 1;
+    }
+}
+
+// The first entry that is no place of the list, stands there already, or has a colour before that of the entry ahead of it.
+fn check_order(order: &[u64], ids: &[u64]) -> Answer
+    ensures { λ a. ⌜ a ≡ turns (now (ids .entry)) (now (order .entry)) ⌝ }
+{
+    let mut k = 0;
+    while k < order.len() {
+        if is_out_of_turn(order, ids, k) {
+            return Answer::Refused(Rule::Code, k);
+        }
+        k += 1;
+    }
+    Answer::Done
+}
+
+fn is_out_of_turn(order: &[u64], ids: &[u64], i: usize) -> bool
+    requires { ⌜ i < length (now order) ⌝ }
+    ensures { λ r. ⌜ r ≡ outOfTurn (now (ids .entry)) (now (order .entry)) i ⌝ }
+{
+    let place = order[i];
+    let places = ids.len() as u64;
+    if places <= place {
+        return true;
+    }
+    if is_repeated(order, i) {
+        return true;
+    }
+    if i == 0 {
+        return false;
+    }
+    let previous = order[i - 1];
+    color_at(ids, place) < color_at(ids, previous)
+}
+
+// Whether an entry stands at an earlier place of the order too.
+fn is_repeated(order: &[u64], i: usize) -> bool
+    requires { ⌜ i < length (now order) ⌝ }
+    ensures { λ r. ⌜ r ≡ repeated (now (order .entry)) i i ⌝ }
+{
+    let mut left = i;
+    while 0 < left {
+        if order[left - 1] == order[i] {
+            return true;
+        }
+        left -= 1;
+    }
+    false
+}
+
+// The colour of the region at a place; beyond the list it is that of the region 0.
+fn color_at(ids: &[u64], at: u64) -> u64
+    ensures { λ r. ⌜ r ≡ colourAt (now (ids .entry)) at ⌝ }
+{
+    if ids.len() as u64 <= at {
+        return color_of(0);
+    }
+    color_of(ids[at as usize])
+}
+
+fn color_of(region_id: u64) -> u64
+    ensures { λ r. ⌜ r ≡ colour dim2 «region_id» ⌝ }
+{
+    if packing::dim2::is_in_region_with_color(region_id, 0) {
+        return 0;
+    }
+    if packing::dim2::is_in_region_with_color(region_id, 1) {
+        return 1;
+    }
+    if packing::dim2::is_in_region_with_color(region_id, 2) {
+        return 2;
+    }
+    3
+}
