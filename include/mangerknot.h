@@ -5,8 +5,8 @@
  * Numbers and structs cross by value. A flag crosses as a uint32_t, 0 or 1.
  *
  * Pointers: behind each stands the count of the entries (not bytes) that it points to; it may be NULL only with a count of 0. A
- * function stays within those entries and keeps no pointer. Only mk_clear2 writes to any, and only where it answers 0. That a
- * pointer is valid and aligned for so many entries, and that entries which are written (those without const) overlap no others of
+ * function stays within those entries and keeps no pointer. Only mk_clear2 and the scatters write to any, to nodes, and only where
+ * they answer 0. That a pointer is valid and aligned for so many entries, and that entries which are written (those without const) overlap no others of
  * the same call, nobody can check behind the call: it is for the caller to see to. The compiler passes the place of a long answer
  * by a pointer of its own making, which is right where the caller includes this file.
  *
@@ -133,10 +133,19 @@ typedef struct { uint32_t found; size_t place; } mk_found_place;
 
 /*
  * Whether a call was refused: 0 and 0 where it was done, else the number of a rule and the index of the first record that breaks
- * it (0 for 1 and 2). Of several rules that are broken the least is answered, and then nothing was written.
+ * it (0 for 1 to 3, and for a place in 4). Of several rules that are broken the least is answered, and then nothing was written.
  *   1  a length does not match its count
- *   2  a count is over its limit: 512 regions
+ *   2  a count is over its limit: 512 regions, 65,536 particles
+ *   3  the cell width is not from 2^-20 to 2^20, dt is not above 0, or they or a part of gravity are not finite
+ *   4  a place is no region's, an entry of an order is none's, named again or of a lower colour than the one before it; after these,
+ *      a word of a particle is neither 0 nor 1
+ *   5  a number of a particle is not finite
  *   6  region ids do not strictly ascend (of such a pair, the later one), or have one of their low 12 bits set
+ *   7  a region's start is not the sum of the counts before it, or its count goes beyond the last particle; the index is the number of
+ *      regions where particles are left over
+ *   8  a particle's nearest cell is not from 1 to 65,535 on an axis
+ *   9  the first cell of a particle's stencil is not in its region
+ *   10 a region that a particle's stencil reaches is not listed
  */
 typedef struct { uint32_t number; size_t index; } mk_refusal;
 
@@ -158,6 +167,40 @@ mk_found_place mk_lookup(const uint64_t *ids, size_t ids_len, uint64_t id);
  */
 mk_refusal mk_clear2(size_t regions, const uint64_t *ids, size_t ids_len, float *node_floats, size_t node_floats_len,
                      uint32_t *node_words, size_t node_words_len);
+
+/* ---- Scatter: from particles to nodes ---- */
+
+/*
+ * A particle has 26 floats (position x, y; velocity x, y; velocity gradient, by rows; stress, by rows; mass; initial volume; phase;
+ * crack factor; psi; deformation gradient, by rows; crack threshold; parameter1; parameter2; kinematic velocity x, y) and 4 words, each
+ * 0 or 1 (failed, kinematic, fluid, static). ranges has two entries for each region, its start and its count: the particles of a region
+ * lie together, regions in the order of their ids. Nodes are as in mk_clear2, and read as they are. All three refuse 1 to 10, whatever
+ * they are given.
+ *
+ * Every particle adds to mass, momentum and psi of the nine nodes of its stencil, and each of these gets a new velocity: by colours 0
+ * to 3, in each by regions as listed, in each by particles. A node that no particle reaches keeps every bit. A result that overflows is
+ * stored as it is.
+ */
+mk_refusal mk_particle_to_grid_scatter2(float cell_width, float dt, mk_vector2 gravity, size_t regions, const uint64_t *ids,
+                                        size_t ids_len, const uint64_t *ranges, size_t ranges_len, size_t particles,
+                                        const float *particle_floats, size_t particle_floats_len, const uint32_t *particle_words,
+                                        size_t particle_words_len, float *node_floats, size_t node_floats_len, uint32_t *node_words,
+                                        size_t node_words_len);
+/* The same for the particles of one region, by its place in the list, on every listed node that they reach. */
+mk_refusal mk_particle_to_grid_scatter_region2(size_t place, float cell_width, float dt, mk_vector2 gravity, size_t regions,
+                                               const uint64_t *ids, size_t ids_len, const uint64_t *ranges, size_t ranges_len,
+                                               size_t particles, const float *particle_floats, size_t particle_floats_len,
+                                               const uint32_t *particle_words, size_t particle_words_len, float *node_floats,
+                                               size_t node_floats_len, uint32_t *node_words, size_t node_words_len);
+/*
+ * The same for all regions in another order, given by their places: each once, no colour (bits 12 and 13 of the id) before a lower one.
+ * Whatever order that is, the nodes are those of mk_particle_to_grid_scatter2.
+ */
+mk_refusal mk_scatter_in_order2(const uint64_t *order, size_t order_len, float cell_width, float dt, mk_vector2 gravity, size_t regions,
+                                const uint64_t *ids, size_t ids_len, const uint64_t *ranges, size_t ranges_len, size_t particles,
+                                const float *particle_floats, size_t particle_floats_len, const uint32_t *particle_words,
+                                size_t particle_words_len, float *node_floats, size_t node_floats_len, uint32_t *node_words,
+                                size_t node_words_len);
 
 #ifdef __cplusplus
 }

@@ -133,6 +133,58 @@ static void nodes(void) {
     EXPECT(mk_clear2(1, NULL, 0, NULL, 0, NULL, 0).number == 1);
 }
 
+/* Document 01's listing: one particle of mass 64 at (1, 1) with the velocity (1, 0) in region 0; h and dt are 1. */
+static const uint64_t region[1] = {0}, range[2] = {0, 1}, in_order[1] = {0};
+static const mk_vector2 no_gravity = {0.0f, 0.0f};
+static const float particle[26] = {1, 1, 1, 0, 0, 0, 0, 0, 0, 0, 0, 0, 64, 1};
+static const uint32_t flags[4] = {0};
+
+/* The listing's nine nodes have these masses, momenta to the right of the same size, and the velocity (1, 0); the others are empty. */
+static void expect_listing(const float *node_floats, const uint32_t *node_words) {
+    static const float masses[16] = {1, 6, 1, 0, 6, 36, 6, 0, 1, 6, 1, 0, 0, 0, 0, 0};
+    for (int k = 0; k < 16; k++) {
+        const float *node = node_floats + 7 * k;
+        const float right[7] = {masses[k], masses[k], 0, masses[k] > 0 ? 1 : 0, 0, 0, 0};
+        EXPECT(memcmp(node, right, sizeof right) == 0 && node_words[k] == 0);
+    }
+}
+
+static void scatters(void) {
+    static float node_floats[3][112];
+    static uint32_t node_words[3][16];
+    mk_refusal done = mk_particle_to_grid_scatter2(1.0f, 1.0f, no_gravity, 1, region, 1, range, 2, 1, particle, 26, flags, 4,
+                                                   node_floats[0], 112, node_words[0], 16);
+    EXPECT(done.number == 0 && done.index == 0);
+    done = mk_particle_to_grid_scatter_region2(0, 1.0f, 1.0f, no_gravity, 1, region, 1, range, 2, 1, particle, 26, flags, 4,
+                                               node_floats[1], 112, node_words[1], 16);
+    EXPECT(done.number == 0 && done.index == 0);
+    done = mk_scatter_in_order2(in_order, 1, 1.0f, 1.0f, no_gravity, 1, region, 1, range, 2, 1, particle, 26, flags, 4,
+                                node_floats[2], 112, node_words[2], 16);
+    EXPECT(done.number == 0 && done.index == 0);
+    for (int k = 0; k < 3; k++) {
+        expect_listing(node_floats[k], node_words[k]);
+    }
+}
+
+static void refused_scatters(void) {
+    static const uint64_t no_region[1] = {1};
+    static float node_floats[112];
+    static uint32_t node_words[16];
+    mk_refusal refused = mk_particle_to_grid_scatter2(0.0f, 1.0f, no_gravity, 1, region, 1, range, 2, 1, particle, 26, flags, 4,
+                                                      node_floats, 112, node_words, 16);
+    EXPECT(refused.number == 3 && refused.index == 0);
+    refused = mk_particle_to_grid_scatter_region2(1, 1.0f, 1.0f, no_gravity, 1, region, 1, range, 2, 1, particle, 26, flags, 4,
+                                                  node_floats, 112, node_words, 16);
+    EXPECT(refused.number == 4 && refused.index == 0);
+    refused = mk_scatter_in_order2(no_region, 1, 1.0f, 1.0f, no_gravity, 1, region, 1, range, 2, 1, particle, 26, flags, 4,
+                                   node_floats, 112, node_words, 16);
+    EXPECT(refused.number == 4 && refused.index == 0);
+    refused = mk_particle_to_grid_scatter2(2.0f, 1.0f, no_gravity, 1, region, 1, range, 2, 1, particle, 26, flags, 3,
+                                           node_floats, 112, node_words, 16);
+    EXPECT(refused.number == 1 && refused.index == 0);
+    EXPECT(node_floats[0] == 0.0f && node_floats[35] == 0.0f);
+}
+
 int main(void) {
     ids_in_2d();
     ids_in_3d();
@@ -141,5 +193,7 @@ int main(void) {
     cells();
     lookups();
     nodes();
+    scatters();
+    refused_scatters();
     return wrong;
 }

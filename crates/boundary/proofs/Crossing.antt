@@ -25,7 +25,7 @@ passed {x} f = toZ-ofZ w32 x f
 pub placed : {answer right case : Found} → answer ≡ right → answer ≡ case → (foundFlag case ≡ foundFlag right) × (foundPlace case ≡ foundPlace right)
 placed e t = (ap foundFlag (sym t ∙ e), ap foundPlace (sym t ∙ e))
 
--- The same of a call that may refuse: number and index of the case are those of what is right, and what the call leaves is so too.
-pub answered : {S : Type 0} {answer right case : Answer} {left : S} (old new : S) → (answer ≡ right) × (left ≡ settle (refused answer) old new) → answer ≡ case
-    → (numberOf case ≡ numberOf right) × (indexOf case ≡ indexOf right) × (left ≡ settle (refused right) old new)
-answered old new (e, l) t = (ap numberOf (sym t ∙ e), ap indexOf (sym t ∙ e), l ∙ ap (λ (a : Answer). settle (refused a) old new) e)
+-- The same of a call that may refuse: number and index crossed are those of its answer, which was right, and what the call leaves is so too.
+pub answered : {S : Type 0} {answer right : Answer} {number index : ℕ} {left : S} (old new : S) → (answer ≡ right) × (left ≡ settle (refused answer) old new)
+    → (number ≡ numberOf answer) × (index ≡ indexOf answer) → (number ≡ numberOf right) × (index ≡ indexOf right) × (left ≡ settle (refused right) old new)
+answered old new (e, l) (n, i) = (n ∙ ap numberOf e, i ∙ ap indexOf e, l ∙ ap (λ (a : Answer). settle (refused a) old new) e)

@@ -1,4 +1,4 @@
-// Cells of points, lookup and clear over the boundary. A slice crosses as a pointer and a length; of what is lent, only clear writes any.
+// Cells of points, lookup and clear over the boundary. A slice crosses as a pointer and a length; of what is lent here, only clear writes any.
 ghost use mathlib.Core.List.{[], _∷_};
 ghost use mathlib.Core.Path.{_≡_};
 ghost use lib.ListN.{length};
@@ -10,8 +10,9 @@ ghost use Rattle.cells.specs.Lookup.{lookup};
 ghost use Rattle.grid.specs.Answers.{numberOf, indexOf, refused};
 ghost use Rattle.grid.specs.Clear.{clearCheck, cleared};
 ghost use Rattle.boundary.specs.Crossing.{foundFlag, foundPlace};
+use crate::answers::Refusal;
+use crate::answers::crossed;
 use cells::Found;
-use grid::Answer;
 use numeric::dim2::Point;
 
 // Where an id stands in a list: 1 and its place, or 0 and 0.
@@ -19,13 +20,6 @@ use numeric::dim2::Point;
 pub struct FoundPlace {
     pub found: u32,
     pub place: usize,
-}
-
-// A number of the table and an index; 0 and 0 where the call is done.
-#[repr(C)]
-pub struct Refusal {
-    pub number: u32,
-    pub index: usize,
 }
 
 #[no_mangle]
@@ -85,14 +79,5 @@ pub extern "C" fn mk_clear2(
         (r .number ≡ numberOf a) × (r .index ≡ indexOf a)
         × (store (now («node_floats» .exit)) (now («node_words» .exit)) ≡ settle (refused a) (store (now («node_floats» .entry)) (now («node_words» .entry))) (cleared regions (store (now («node_floats» .entry)) (now («node_words» .entry)))))) ⌝ }
 {
-    let Answer::Refused(rule, index) = grid::clear(regions, ids, node_floats, node_words) else {
-        return Refusal {
-            number: 0,
-            index: 0,
-        };
-    };
-    Refusal {
-        number: grid::number(rule),
-        index,
-    }
+    crossed(grid::clear(regions, ids, node_floats, node_words))
 }

@@ -1,11 +1,15 @@
 //! Cells of points, lookup and clear through the archive: the grid vectors, a table by hand, and every word of lent memory.
 
+mod lent;
+mod packed;
 mod pattern;
 mod replay;
 
+use lent::Lent;
 use mangerknot_sys::*;
+use packed::{hex, id};
 use pattern::bits;
-use replay::{decimal, hex, id, replay};
+use replay::{decimal, replay};
 use std::ptr;
 
 /// Document 01's values, by hand: cells of points, and the centre of the cell at 5, 5.
@@ -40,42 +44,6 @@ fn lookups_by_hand() {
     assert_eq!(unsafe { mk_lookup(ptr::null(), 0, 0) }, absent);
 }
 
-/// Words that no call may touch, in front of those that are lent and behind them; three of 4 bytes, so that what is lent is
-/// aligned as it has to be and no better.
-const GUARDS: usize = 3;
-
-/// Memory that is lent, between guards, and how it was.
-struct Lent<T> {
-    all: Vec<T>,
-    old: Vec<T>,
-}
-
-impl<T: Copy + Default + PartialEq> Lent<T> {
-    /// So many of the words, with others of them as guards.
-    fn of(words: impl Iterator<Item = T>, count: usize) -> Self {
-        let all: Vec<T> = words.take(GUARDS + count + GUARDS).collect();
-        assert_eq!(all.len(), GUARDS + count + GUARDS);
-        Lent { old: all.clone(), all }
-    }
-
-    fn lent(&mut self) -> &mut [T] {
-        let end = self.all.len() - GUARDS;
-        &mut self.all[GUARDS..end]
-    }
-
-    fn is_kept(&self) -> bool {
-        self.all == self.old
-    }
-
-    /// Every lent word is zero, and the guards are as they were.
-    fn is_cleared(&self) -> bool {
-        let end = self.all.len() - GUARDS;
-        let is_right =
-            |(place, word): (usize, &T)| *word == if (GUARDS..end).contains(&place) { T::default() } else { self.old[place] };
-        self.all.iter().enumerate().all(is_right)
-    }
-}
-
 /// Marsaglia's xorshift32.
 fn random(seed: u32) -> impl Iterator<Item = u32> {
     let mut state = seed.wrapping_mul(0x9e37_79b9) | 1;
@@ -102,12 +70,17 @@ fn patterns(seed: u32) -> impl Iterator<Item = u32> {
     })
 }
 
+/// Every lent word is zero, and the guards are as they were.
+fn is_cleared(words: &mut Lent<u32>) -> bool {
+    words.guards_are_kept() && words.lent().iter().all(|word| *word == 0)
+}
+
 /// A call of clear, with nodes full of patterns that are lent as raw words; every lent word is looked at afterwards.
 fn clear(regions: usize, ids: &[u64], floats: usize, words: usize) -> Refusal {
     let seed = (regions as u32) ^ (floats as u32) << 8 ^ (words as u32) << 16;
-    let mut ids = Lent::of([u64::MAX; GUARDS].into_iter().chain(ids.iter().copied()).chain([0; GUARDS]), ids.len());
-    let mut floats = Lent::of(patterns(seed), floats);
-    let mut words = Lent::of(random(!seed), words);
+    let mut ids = Lent::of(ids, [u64::MAX, 0]);
+    let mut floats = Lent::of(&patterns(seed).take(floats).collect::<Vec<_>>(), [0x7f80_0001, 0xffff_ffff]);
+    let mut words = Lent::of(&random(!seed).take(words).collect::<Vec<_>>(), [0xa5a5_a5a5, 7]);
     let (lent_ids, lent_floats, lent_words) = (ids.lent(), floats.lent(), words.lent());
     let refusal = unsafe {
         mk_clear2(
@@ -122,7 +95,9 @@ fn clear(regions: usize, ids: &[u64], floats: usize, words: usize) -> Refusal {
     };
     assert!(ids.is_kept());
     match refusal.number {
-        0 => assert!(floats.is_cleared() && words.is_cleared(), "done, and not every node is zero, or more than the nodes"),
+        0 => {
+            assert!(is_cleared(&mut floats) && is_cleared(&mut words), "done, and not every node is zero, or more than the nodes")
+        }
         _ => assert!(floats.is_kept() && words.is_kept(), "refused by {}, and not every word is as it was", refusal.number),
     }
     refusal

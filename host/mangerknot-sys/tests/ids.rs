@@ -1,9 +1,11 @@
 //! Packing through the archive: document 01's values, and every packing vector, whose answers are the handed-over Rust's.
 
+mod packed;
 mod replay;
 
 use mangerknot_sys::*;
-use replay::{decimal, hex, id, replay};
+use packed::{hex, id};
+use replay::{decimal, replay};
 
 #[test]
 fn document_01s_values_in_2d() {

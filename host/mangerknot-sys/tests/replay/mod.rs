@@ -1,4 +1,4 @@
-//! Replays vectors through the archive, and reads and writes their fields.
+//! Replays vectors through the archive, and reads their fields.
 
 use std::collections::BTreeMap;
 use std::fs;
@@ -18,14 +18,6 @@ pub fn replay(questions: &str, answers: &str, mut answer: impl FnMut(&[&str]) ->
     asked
 }
 
-pub fn hex(field: &str) -> u64 {
-    u64::from_str_radix(field, 16).expect("a field of hex digits")
-}
-
 pub fn decimal<T: FromStr>(field: &str) -> T {
     field.parse().ok().expect("a decimal field")
-}
-
-pub fn id(answer: u64) -> String {
-    format!("{:016X}", answer)
 }

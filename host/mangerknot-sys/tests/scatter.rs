@@ -1,0 +1,192 @@
+//! The three calls of scatter through the archive: the scatter vectors, random calls, and every word of lent memory.
+
+mod archive;
+mod lent;
+mod replay;
+
+use archive::{Lists, Which};
+use lent::Lent;
+use mangerknot_sys::*;
+use replay::{decimal, replay};
+use samples::lines::Edit;
+use samples::random::{order, Style};
+use samples::{Call, Rng, PARTICLE_FLOATS};
+use std::ptr;
+
+const SEED: u64 = 0x5363_6174_7465_7221;
+
+/// The nodes' floats, by their bits, and words.
+type Nodes = (Vec<u32>, Vec<u32>);
+
+/// A call on lent memory between guards: what it answers, and the nodes afterwards. Whatever else was lent is as it was, and so
+/// are the nodes where the call is refused.
+fn scatter(which: &Which, call: &Call) -> (Refusal, Nodes) {
+    let (wide, narrow) = ([u64::MAX, 0], [0x7f80_0001, 0xffff_ffff]);
+    let (mut ids, mut ranges) = (Lent::of(&call.ids, wide), Lent::of(&call.ranges, wide));
+    let mut order = Lent::of(if let Which::Order(order) = which { order } else { &[] }, wide);
+    let mut particle_floats = Lent::of(&call.particle_floats, narrow);
+    let mut particle_words = Lent::of(&call.particle_words, narrow);
+    let (mut node_floats, mut node_words) = (Lent::of(&call.node_floats, narrow), Lent::of(&call.node_words, narrow));
+    let lists = Lists {
+        ids: ids.lent(),
+        ranges: ranges.lent(),
+        particle_floats: particle_floats.lent(),
+        particle_words: particle_words.lent(),
+        node_floats: node_floats.lent(),
+        node_words: node_words.lent(),
+    };
+    let refusal = match which {
+        Which::Order(_) => archive::scatter(&Which::Order(order.lent()), call, lists),
+        _ => archive::scatter(which, call, lists),
+    };
+    assert!(order.is_kept() && ids.is_kept() && ranges.is_kept() && particle_floats.is_kept() && particle_words.is_kept());
+    assert!(node_floats.guards_are_kept() && node_words.guards_are_kept());
+    if refusal.number != 0 {
+        assert!(node_floats.is_kept() && node_words.is_kept(), "refused by {}, and not every word is as it was", refusal.number);
+    }
+    (refusal, (node_floats.lent().to_vec(), node_words.lent().to_vec()))
+}
+
+/// The nodes after a call that has to be done.
+fn done(which: &Which, call: &Call) -> Nodes {
+    let (refusal, nodes) = scatter(which, call);
+    assert_eq!(refusal, Refusal { number: 0, index: 0 });
+    nodes
+}
+
+fn hits(which: &Which, call: &Call) -> Vec<bool> {
+    match which {
+        Which::Region(place) => call.hits(Some(*place)),
+        _ => call.hits(None),
+    }
+}
+
+/// The archive's answer to a question about a call.
+fn answer(which: &Which, call: &Call, edits: &[&str]) -> String {
+    let edits: Vec<Edit> = edits.iter().map(|edit| edit.parse().expect("a change")).collect();
+    let call = call.edited(&edits);
+    let (Refusal { number, index }, (floats, words)) = scatter(which, &call);
+    let mut fields = vec![number.to_string(), index.to_string()];
+    if number == 0 {
+        fields.extend(call.answered((&floats, &words), &hits(which, &call)));
+    }
+    fields.join("\t")
+}
+
+#[test]
+fn scatter_vectors() {
+    let mut calls: Vec<Call> = vec![];
+    let asked = replay("host/vectors/scatter.questions", "host/vectors/scatter.answers", |question| match *question {
+        ["b", number, ref fields @ ..] => {
+            assert_eq!(decimal::<usize>(number), calls.len());
+            calls.push(Call::from_fields(fields));
+            calls[calls.len() - 1].node_words.len().to_string()
+        }
+        ["f", number, ref edits @ ..] => answer(&Which::All, &calls[decimal::<usize>(number)], edits),
+        ["o", number, place, ref edits @ ..] => answer(&Which::Region(decimal(place)), &calls[decimal::<usize>(number)], edits),
+        ["q", number, count, ref rest @ ..] => {
+            let (order, edits) = rest.split_at(decimal(count));
+            let order: Vec<u64> = order.iter().map(|place| decimal(place)).collect();
+            answer(&Which::Order(&order), &calls[decimal::<usize>(number)], edits)
+        }
+        _ => panic!("no such question: {:?}", question),
+    });
+    let kinds: String = asked.keys().map(String::as_str).collect();
+    assert_eq!(kinds, "bfoq");
+}
+
+/// All at once, in an order of regions, and region by region: the nodes are the same, and a node that no particle reaches keeps
+/// every bit.
+#[test]
+fn any_order_within_colours_leaves_the_same_nodes() {
+    let mut rng = Rng::new(SEED);
+    for sample in 0..4000 {
+        let call = Style::any(&mut rng).sample(&mut rng);
+        let hits = call.hits(None);
+        let written = |nodes: &Nodes| call.answered((&nodes.0, &nodes.1), &hits);
+        let all = written(&done(&Which::All, &call));
+        assert!(all.iter().zip(&hits).all(|(node, hit)| *hit != (*node == "=")), "sample {}", sample);
+        let order = order(&call, &mut rng);
+        assert_eq!(written(&done(&Which::Order(&order), &call)), all, "sample {}", sample);
+        let mut one_by_one = call.clone();
+        for place in order {
+            (one_by_one.node_floats, one_by_one.node_words) = done(&Which::Region(place as usize), &one_by_one);
+        }
+        assert_eq!(written(&(one_by_one.node_floats, one_by_one.node_words)), all, "sample {}", sample);
+    }
+}
+
+/// One region's call does not touch what its own particles do not reach.
+#[test]
+fn a_regions_call_takes_its_own_particles_alone() {
+    let mut rng = Rng::new(!SEED);
+    for sample in 0..1000 {
+        let call = Style::any(&mut rng).sample(&mut rng);
+        let place = rng.below(call.regions) as usize;
+        let (floats, words) = done(&Which::Region(place), &call);
+        let hits = call.hits(Some(place));
+        let nodes = call.answered((&floats, &words), &hits);
+        assert!(nodes.iter().zip(&hits).all(|(node, hit)| *hit != (*node == "=")), "sample {}", sample);
+    }
+}
+
+/// Two particles whose masses each fit and whose sum does not: the node's mass is infinite, and so no particle may hold it.
+#[test]
+fn what_overflowed_is_stored_and_refused_as_input() {
+    let mut rng = Rng::new(SEED);
+    let mut call = Style::plain(1.0, [1, 1], [1, 1], 2).sample(&mut rng);
+    for particle in 0..2 {
+        call.particle_floats[particle * PARTICLE_FLOATS..][..2].copy_from_slice(&[2f32.to_bits(); 2]);
+        call.particle_floats[particle * PARTICLE_FLOATS + 12] = f32::MAX.to_bits();
+    }
+    let (floats, _) = done(&Which::All, &call);
+    let middle = floats[(4 * 2 + 2) * 7];
+    assert_eq!(f32::from_bits(middle), f32::INFINITY);
+    call.particle_floats[PARTICLE_FLOATS + 16] = middle;
+    for which in [Which::All, Which::Region(0), Which::Order(&order(&call, &mut rng))] {
+        assert_eq!(scatter(&which, &call).0, Refusal { number: 5, index: 1 });
+    }
+}
+
+/// Nothing is behind a pointer with a count of 0, and NULL is as good as any.
+#[test]
+fn empty_lists_may_be_null() {
+    macro_rules! of_nothing {
+        ($function:ident, $regions:expr, $particles:expr $(, $first:expr)*) => {
+            unsafe {
+                $function(
+                    $($first,)*
+                    1.0,
+                    1.0,
+                    Vector2 { x: 0.0, y: 0.0 },
+                    $regions,
+                    ptr::null(),
+                    0,
+                    ptr::null(),
+                    0,
+                    $particles,
+                    ptr::null(),
+                    0,
+                    ptr::null(),
+                    0,
+                    ptr::null_mut(),
+                    0,
+                    ptr::null_mut(),
+                    0,
+                )
+            }
+        };
+    }
+    let answers = |regions: usize, particles: usize| {
+        [
+            of_nothing!(mk_particle_to_grid_scatter2, regions, particles),
+            of_nothing!(mk_particle_to_grid_scatter_region2, regions, particles, 0),
+            of_nothing!(mk_scatter_in_order2, regions, particles, ptr::null(), 0),
+        ]
+    };
+    let (accepted, lengths) = (Refusal { number: 0, index: 0 }, Refusal { number: 1, index: 0 });
+    assert_eq!(answers(0, 0), [accepted, Refusal { number: 4, index: 0 }, accepted]);
+    for (regions, particles) in [(1, 0), (0, 1), (1 << 60, 0), (0, 1 << 63), (usize::MAX, usize::MAX)] {
+        assert_eq!(answers(regions, particles), [lengths; 3]);
+    }
+}

@@ -1,0 +1,263 @@
+//! Calls in fields of lines, and what a question changes about a call.
+
+use crate::{canonical, Call, NODE_FLOATS, PARTICLE_FLOATS, PARTICLE_WORDS, REGION_NODES};
+use std::fmt;
+use std::str::FromStr;
+
+/// How an empty node is written, and one that is as it was.
+const EMPTY: &str = "0";
+const KEPT: &str = "=";
+
+impl Call {
+    /// The call's fields: settings, regions with their starts and counts, particles, nodes.
+    pub fn fields(&self) -> Vec<String> {
+        let mut fields: Vec<String> = self.settings().iter().map(|setting| word(setting.to_bits())).collect();
+        fields.push(self.regions.to_string());
+        for (id, range) in self.ids.iter().zip(self.ranges.chunks_exact(2)) {
+            fields.extend([format!("{:016X}", id), range[0].to_string(), range[1].to_string()]);
+        }
+        fields.push(self.particles.to_string());
+        let particles = self.particle_floats.chunks_exact(PARTICLE_FLOATS).zip(self.particle_words.chunks_exact(PARTICLE_WORDS));
+        fields.extend(particles.map(|(floats, words)| hex(floats) + &hex(words)));
+        fields.extend((0..self.node_words.len()).map(|place| self.node(place)));
+        fields
+    }
+
+    fn settings(&self) -> [f32; 4] {
+        [self.cell_width, self.dt, self.gravity[0], self.gravity[1]]
+    }
+
+    /// A call from its fields; anything else is a fault of the file.
+    pub fn from_fields(fields: &[&str]) -> Call {
+        let mut fields = fields.iter().copied();
+        let mut next = || fields.next().expect("another field");
+        let [cell_width, dt, x, y] = [0; 4].map(|_| f32::from_bits(bits(next())));
+        let mut call = Call { cell_width, dt, gravity: [x, y], ..Call::on(vec![]) };
+        call.regions = decimal(next());
+        for _ in 0..call.regions {
+            call.ids.push(u64::from_str_radix(next(), 16).expect("an id"));
+            call.ranges.extend([0; 2].map(|_| decimal::<u64>(next())));
+        }
+        call.particles = decimal(next());
+        for _ in 0..call.particles {
+            let (floats, words) = parted(next(), PARTICLE_FLOATS);
+            call.particle_floats.extend(floats);
+            call.particle_words.extend(words);
+        }
+        for _ in 0..call.ids.len() * REGION_NODES {
+            let (floats, words) = match next() {
+                EMPTY => (vec![0; NODE_FLOATS], vec![0]),
+                node => parted(node, NODE_FLOATS),
+            };
+            call.node_floats.extend(floats);
+            call.node_words.extend(words);
+        }
+        assert_eq!(fields.next(), None, "fields left over");
+        call
+    }
+
+    fn node(&self, place: usize) -> String {
+        let floats = &self.node_floats[place * NODE_FLOATS..][..NODE_FLOATS];
+        if floats.iter().chain(&self.node_words[place..=place]).all(|part| *part == 0) {
+            EMPTY.to_string()
+        } else {
+            hex(floats) + &word(self.node_words[place])
+        }
+    }
+
+    /// The nodes after a call that was done, as an answer has them: a node that was hit with one pattern for every NaN, and of
+    /// the others whether they are as they were.
+    pub fn answered(&self, after: (&[u32], &[u32]), hit: &[bool]) -> Vec<String> {
+        let before = self.node_floats.chunks_exact(NODE_FLOATS).zip(&self.node_words);
+        let after = after.0.chunks_exact(NODE_FLOATS).zip(after.1);
+        let nodes = before.zip(after).zip(hit).map(|((before, (floats, flag)), hit)| match hit {
+            true => floats.iter().map(|part| word(canonical(*part))).collect::<String>() + &word(*flag),
+            false if before == (floats, flag) => KEPT.to_string(),
+            false => hex(floats) + &word(*flag),
+        });
+        nodes.collect()
+    }
+
+    pub fn edited(&self, edits: &[Edit]) -> Call {
+        let mut call = self.clone();
+        edits.iter().for_each(|edit| edit.apply(&mut call));
+        call
+    }
+}
+
+fn word(number: u32) -> String {
+    format!("{:08X}", number)
+}
+
+fn hex(words: &[u32]) -> String {
+    words.iter().map(|part| word(*part)).collect()
+}
+
+fn bits(field: &str) -> u32 {
+    u32::from_str_radix(field, 16).expect("8 hex digits")
+}
+
+fn decimal<T: FromStr>(field: &str) -> T {
+    field.parse().ok().expect("a decimal")
+}
+
+/// A record's floats and words.
+fn parted(field: &str, floats: usize) -> (Vec<u32>, Vec<u32>) {
+    let words: Vec<u32> = (0..field.len() / 8).map(|place| bits(&field[8 * place..8 * place + 8])).collect();
+    let (floats, words) = words.split_at(floats);
+    (floats.to_vec(), words.to_vec())
+}
+
+/// What a question changes about a call; `Display` writes it as a field, and `from_str` reads that.
+#[derive(Clone, Debug, PartialEq)]
+pub enum Edit {
+    /// h, t (dt), x or y (gravity) = bits.
+    Setting(char, u32),
+    /// r (regions) or p (particles) = a count, whatever the lists have.
+    Count(char, u64),
+    /// An entry of a list: its letter, place, and bits.
+    Entry(char, usize, u64),
+    /// A list's length; what is missing is 0.
+    Length(char, usize),
+    /// All particles are the first one, so often, and all of the first region.
+    Copies(usize),
+}
+
+/// A list of a call, by its letter: i ids, s starts and counts, f and w floats and words of particles, m and k of nodes.
+enum List<'a> {
+    Wide(&'a mut Vec<u64>),
+    Narrow(&'a mut Vec<u32>),
+}
+
+fn list(call: &mut Call, letter: char) -> List<'_> {
+    match letter {
+        'i' => List::Wide(&mut call.ids),
+        's' => List::Wide(&mut call.ranges),
+        'f' => List::Narrow(&mut call.particle_floats),
+        'w' => List::Narrow(&mut call.particle_words),
+        'm' => List::Narrow(&mut call.node_floats),
+        'k' => List::Narrow(&mut call.node_words),
+        _ => panic!("no list {}", letter),
+    }
+}
+
+impl Edit {
+    fn apply(&self, call: &mut Call) {
+        match *self {
+            Edit::Setting(letter, bits) => *setting(call, letter) = f32::from_bits(bits),
+            Edit::Count('r', count) => call.regions = count,
+            Edit::Count(_, count) => call.particles = count,
+            Edit::Entry(letter, place, bits) => match list(call, letter) {
+                List::Wide(list) => list[place] = bits,
+                List::Narrow(list) => list[place] = bits as u32,
+            },
+            Edit::Length(letter, length) => match list(call, letter) {
+                List::Wide(list) => list.resize(length, 0),
+                List::Narrow(list) => list.resize(length, 0),
+            },
+            Edit::Copies(count) => copy_first(call, count),
+        }
+    }
+}
+
+fn setting(call: &mut Call, letter: char) -> &mut f32 {
+    match letter {
+        'h' => &mut call.cell_width,
+        't' => &mut call.dt,
+        'x' => &mut call.gravity[0],
+        'y' => &mut call.gravity[1],
+        _ => panic!("no setting {}", letter),
+    }
+}
+
+fn copy_first(call: &mut Call, count: usize) {
+    call.particles = count as u64;
+    call.particle_floats = call.particle_floats[..PARTICLE_FLOATS].repeat(count);
+    call.particle_words = call.particle_words[..PARTICLE_WORDS].repeat(count);
+    for (place, range) in call.ranges.chunks_exact_mut(2).enumerate() {
+        range.copy_from_slice(&if place == 0 { [0, count as u64] } else { [count as u64, 0] });
+    }
+}
+
+impl fmt::Display for Edit {
+    fn fmt(&self, f: &mut fmt::Formatter<'_>) -> fmt::Result {
+        match self {
+            Edit::Setting(letter, bits) => write!(f, "{}={:08X}", letter, bits),
+            Edit::Count(letter, count) => write!(f, "{}={}", letter, count),
+            Edit::Entry(letter, place, bits) => write!(f, "{}{}={:X}", letter, place, bits),
+            Edit::Length(letter, length) => write!(f, "{}#{}", letter, length),
+            Edit::Copies(count) => write!(f, "*{}", count),
+        }
+    }
+}
+
+/// Anything but what `Display` writes is a fault of the file.
+impl FromStr for Edit {
+    type Err = ();
+
+    fn from_str(field: &str) -> Result<Edit, ()> {
+        let letter = field.chars().next().ok_or(())?;
+        let rest = &field[1..];
+        Ok(match (letter, rest.split_once('='), rest.strip_prefix('#')) {
+            ('*', ..) => Edit::Copies(decimal(rest)),
+            ('r' | 'p', Some(("", count)), _) => Edit::Count(letter, decimal(count)),
+            ('h' | 't' | 'x' | 'y', Some(("", setting)), _) => Edit::Setting(letter, bits(setting)),
+            (_, Some((place, entry)), _) => Edit::Entry(letter, decimal(place), u64::from_str_radix(entry, 16).map_err(drop)?),
+            (_, None, Some(length)) => Edit::Length(letter, decimal(length)),
+            _ => return Err(()),
+        })
+    }
+}
+
+#[cfg(test)]
+mod tests {
+    use super::*;
+    use crate::random::Style;
+    use crate::Rng;
+
+    #[test]
+    fn what_is_written_is_read_again() {
+        let mut rng = Rng::new(5);
+        for _ in 0..200 {
+            let call = Style::any(&mut rng).sample(&mut rng);
+            let fields = call.fields();
+            assert_eq!(Call::from_fields(&fields.iter().map(String::as_str).collect::<Vec<_>>()), call);
+        }
+    }
+
+    #[test]
+    fn edits_are_read_again_and_change_what_they_name() {
+        let call = Style::plain(1.0, [0, 0], [4, 4], 3).sample(&mut Rng::new(1));
+        let edits =
+            ["h=40000000", "y=FFC00000", "r=18446744073709551615", "i0=FFF", "s1=2", "f27=80000000", "w3=2", "m#5", "k#17"];
+        let read: Vec<Edit> = edits.iter().map(|edit| edit.parse().unwrap()).collect();
+        assert!(read.iter().map(Edit::to_string).eq(edits));
+        let edited = call.edited(&read);
+        assert_eq!((edited.cell_width, edited.gravity[1].is_nan(), edited.regions), (2.0, true, u64::MAX));
+        assert_eq!((edited.ids[0], edited.ranges[1], edited.particle_words[3]), (0xfff, 2, 2));
+        assert_eq!((edited.particle_floats[27], edited.node_floats.len(), edited.node_words.len()), (0x8000_0000, 5, 17));
+        assert_eq!((edited.particles, edited.ids.len(), edited.dt), (3, call.ids.len(), call.dt));
+    }
+
+    #[test]
+    fn copies_are_all_of_the_first_region() {
+        let call = Style::plain(1.0, [3, 3], [1, 1], 1).sample(&mut Rng::new(1)).edited(&["*5".parse().unwrap()]);
+        assert_eq!((call.particles, &call.ranges[..4]), (5, &[0, 5, 5, 0][..]));
+        assert_eq!((call.particle_floats.len(), call.particle_words.len()), (130, 20));
+        assert_eq!(call.position(4), call.position(0));
+    }
+
+    #[test]
+    fn an_answer_has_what_was_hit_and_what_moved() {
+        let mut call = Call::on(vec![0]);
+        call.node_floats[0] = 0xff80_0001;
+        let (mut floats, words) = (call.node_floats.clone(), call.node_words.clone());
+        floats[7] = 0xffff_ffff;
+        floats[14] = 1;
+        let mut hit = vec![false; 16];
+        hit[1] = true;
+        let answered = call.answered((&floats, &words), &hit);
+        let written = |first: &str| format!("{:0<64}", first);
+        assert_eq!(answered[..4], ["=".to_string(), written("7FC00000"), written("00000001"), "=".to_string()]);
+    }
+}
