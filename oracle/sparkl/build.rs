@@ -9,12 +9,28 @@ const USUAL_PLACE: &str = "../shared/docs/src";
 
 /// The handed-over files, and for each the file in `ways_in` that is put after it (none: it is public enough).
 const FILES: &[(&str, Option<&str>)] = &[
+    ("src/dynamics/grid_node.rs", None),
+    ("src/dynamics/models/constitutive_model.rs", None),
+    ("src/dynamics/models/failure_model.rs", None),
+    ("src/dynamics/models/plastic_model.rs", None),
+    ("src/dynamics/particle.rs", None),
+    ("src/dynamics/particle_model.rs", None),
+    ("src/dynamics/particle_set.rs", None),
+    ("src/dynamics/solver/particle_to_grid.rs", None),
     ("src/geometry/mod.rs", Some("geometry.rs")),
     ("src/geometry/sp_grid.rs", Some("sp_grid.rs")),
     ("src/utils/morton2.rs", None),
     ("src/utils/morton3.rs", None),
     ("src/utils/physics.rs", None),
     ("src_core/dynamics/solver/kernel.rs", None),
+];
+
+/// Handed-over lists of modules name files that are not built here, so ours stand in their places.
+const OUR_LISTS: &[(&str, &str)] = &[
+    ("src/dynamics/mod.rs", "dynamics.rs"),
+    ("src/dynamics/models/mod.rs", "models.rs"),
+    ("src/dynamics/solver/mod.rs", "solver.rs"),
+    ("src/utils/mod.rs", "utils.rs"),
 ];
 
 fn main() {
@@ -24,7 +40,9 @@ fn main() {
     let source = handed_over(&manifest);
     let out = PathBuf::from(variable("OUT_DIR"));
 
-    copy_our_utils(&shared_source, &out);
+    for (name, ours) in OUR_LISTS {
+        write(&out.join(name), &read(&shared_source.join("lists").join(ours)));
+    }
     let mut rows = String::new();
     for (name, way_in) in FILES {
         let text = read(&source.join(name));
@@ -48,11 +66,6 @@ fn opened(shared_source: &Path, way_in: Option<&str>) -> String {
         Some(name) => "\n".to_string() + &read(&shared_source.join("ways_in").join(name)),
         None => String::new(),
     }
-}
-
-/// The handed-over list of utilities names files that are not built here, so ours stands in its place.
-fn copy_our_utils(shared_source: &Path, out: &Path) {
-    write(&out.join("src/utils/mod.rs"), &read(&shared_source.join("utils.rs")));
 }
 
 fn read(path: &Path) -> String {

@@ -2,18 +2,32 @@
 
 // The handed-over files import from crates that are not here; each of those names leads to this crate's own stand-ins.
 extern crate self as anyhow;
+extern crate self as bitflags;
 extern crate self as bytemuck;
+extern crate self as instant;
 extern crate self as memmap2;
 extern crate self as na;
+extern crate self as parry;
+extern crate self as rapier;
+extern crate self as rayon;
 
 #[macro_use]
-#[path = "stand_ins.rs"]
 mod stand_ins;
+pub mod math;
 
+pub use math::{zero, SMatrix};
+#[cfg(feature = "dim2")]
+pub(crate) use stand_ins::flags as bitflags;
 pub(crate) use stand_ins::vector;
-pub use stand_ins::{from_bytes, from_bytes_mut, math, MmapMut, Pod, Result, SMatrix};
+pub use stand_ins::{core, data, from_bytes, from_bytes_mut, now, prelude, MmapMut, Pod, Result, Zeroable};
 
 // The handed-over text is not ours to tidy.
+#[cfg(feature = "dim2")]
+#[allow(warnings, clippy::all)]
+pub mod dynamics {
+    include!(concat!(env!("OUT_DIR"), "/src/dynamics/mod.rs"));
+}
+
 #[allow(warnings, clippy::all)]
 pub mod geometry {
     include!(concat!(env!("OUT_DIR"), "/src/geometry/mod.rs"));
@@ -28,6 +42,9 @@ pub mod kernel {
 pub mod utils {
     include!(concat!(env!("OUT_DIR"), "/src/utils/mod.rs"));
 }
+
+#[cfg(feature = "dim2")]
+pub mod scatter;
 
 /// Every handed-over file of this build: its path, and its bytes as they stand in the very copy that is compiled.
 pub fn sources() -> Vec<(&'static str, &'static [u8])> {

@@ -1,8 +1,9 @@
 //! The least of the missing crates that the handed-over files need in order to compile and to mean what they mean there.
 
+use std::collections::HashMap;
 use std::fmt;
-use std::marker::PhantomData;
-use std::ops::{Add, Deref, DerefMut, Mul, Sub};
+use std::mem::{align_of, size_of};
+use std::ops::{Index, IndexMut, Range};
 
 /// For `log::info!`: its arguments are looked at by the compiler and then dropped.
 macro_rules! info {
@@ -28,178 +29,39 @@ macro_rules! vector {
 
 pub(crate) use vector;
 
-/// For `parry::math`.
-pub mod math {
-    use std::ops::{Div, Mul, Neg, Sub};
+/// For `bitflags::bitflags!`; like there, bits that no flag has are carried along.
+#[cfg(feature = "dim2")]
+macro_rules! flags {
+    (pub struct $name:ident: u32 { $(const $flag:ident = $bits:expr;)* }) => {
+        #[derive(Copy, Clone, Debug, PartialEq)]
+        pub struct $name {
+            bits: u32,
+        }
 
-    pub type Real = f32;
-    pub type Matrix<T> = super::SMatrix<T, DIM, DIM>;
+        impl $name {
+            $(pub const $flag: Self = $name { bits: $bits };)*
 
-    #[cfg(feature = "dim2")]
-    pub const DIM: usize = 2;
-    #[cfg(feature = "dim3")]
-    pub const DIM: usize = 3;
+            pub fn bits(&self) -> u32 {
+                self.bits
+            }
 
-    #[derive(Copy, Clone, Debug, PartialEq)]
-    pub struct Vector<T> {
-        pub x: T,
-        pub y: T,
-        #[cfg(feature = "dim3")]
-        pub z: T,
-    }
+            pub fn from_bits_unchecked(bits: u32) -> Self {
+                $name { bits }
+            }
 
-    /// Nothing built here can tell a point from a vector, so one struct is both.
-    pub type Point<T> = Vector<T>;
+            pub fn contains(&self, other: Self) -> bool {
+                self.bits & other.bits == other.bits
+            }
 
-    impl<T> Vector<T> {
-        pub fn map<R>(self, mut f: impl FnMut(T) -> R) -> Vector<R> {
-            Vector {
-                x: f(self.x),
-                y: f(self.y),
-                #[cfg(feature = "dim3")]
-                z: f(self.z),
+            pub fn set(&mut self, other: Self, on: bool) {
+                self.bits = if on { self.bits | other.bits } else { self.bits & !other.bits };
             }
         }
-    }
-
-    impl Vector<u32> {
-        pub fn cast<R: FromU32>(self) -> Vector<R> {
-            self.map(R::from_u32)
-        }
-    }
-
-    /// The one conversion that `cast` is used for.
-    pub trait FromU32 {
-        fn from_u32(number: u32) -> Self;
-    }
-
-    impl FromU32 for Real {
-        fn from_u32(number: u32) -> Self {
-            number as Real
-        }
-    }
-
-    #[cfg(feature = "dim2")]
-    impl<T> From<[T; 2]> for Vector<T> {
-        fn from([x, y]: [T; 2]) -> Self {
-            Vector { x, y }
-        }
-    }
-
-    #[cfg(feature = "dim3")]
-    impl<T> From<[T; 3]> for Vector<T> {
-        fn from([x, y, z]: [T; 3]) -> Self {
-            Vector { x, y, z }
-        }
-    }
-
-    impl Mul<Real> for Vector<Real> {
-        type Output = Self;
-
-        fn mul(self, factor: Real) -> Self {
-            self.map(|part| part * factor)
-        }
-    }
-
-    impl Div<Real> for Vector<Real> {
-        type Output = Self;
-
-        fn div(self, divisor: Real) -> Self {
-            self.map(|part| part / divisor)
-        }
-    }
-
-    impl Div<Real> for &Vector<Real> {
-        type Output = Vector<Real>;
-
-        fn div(self, divisor: Real) -> Vector<Real> {
-            *self / divisor
-        }
-    }
-
-    impl Neg for Vector<Real> {
-        type Output = Self;
-
-        fn neg(self) -> Self {
-            self.map(|part| -part)
-        }
-    }
-
-    impl Sub for Vector<Real> {
-        type Output = Self;
-
-        fn sub(self, other: Self) -> Self {
-            Vector {
-                x: self.x - other.x,
-                y: self.y - other.y,
-                #[cfg(feature = "dim3")]
-                z: self.z - other.z,
-            }
-        }
-    }
-
-    /// No matrix has a value here, so nothing is ever taken apart.
-    pub struct DecomposedTensor {
-        pub deviatoric_part: Matrix<Real>,
-    }
-
-    impl DecomposedTensor {
-        pub fn decompose(tensor: &Matrix<Real>) -> Self {
-            tensor.never()
-        }
-    }
+    };
 }
 
-/// For `nalgebra::SMatrix`: `physics.rs` names it in functions that nothing here asks, so there is no value of it.
-pub struct SMatrix<T, const R: usize, const C: usize>(Never, PhantomData<T>);
-
-enum Never {}
-
-impl<T, const R: usize, const C: usize> SMatrix<T, R, C> {
-    fn never(&self) -> ! {
-        match self.0 {}
-    }
-
-    pub fn zip_map(&self, _: &Self, _: impl FnMut(T, T) -> T) -> Self {
-        self.never()
-    }
-
-    pub fn min(&self) -> T {
-        self.never()
-    }
-
-    pub fn trace(&self) -> T {
-        self.never()
-    }
-
-    pub fn transpose(&self) -> Self {
-        self.never()
-    }
-}
-
-impl<T, const R: usize, const C: usize> Add<SMatrix<T, R, C>> for &SMatrix<T, R, C> {
-    type Output = SMatrix<T, R, C>;
-
-    fn add(self, _: SMatrix<T, R, C>) -> SMatrix<T, R, C> {
-        self.never()
-    }
-}
-
-impl<T, const R: usize, const C: usize> Sub<SMatrix<T, R, C>> for &SMatrix<T, R, C> {
-    type Output = SMatrix<T, R, C>;
-
-    fn sub(self, _: SMatrix<T, R, C>) -> SMatrix<T, R, C> {
-        self.never()
-    }
-}
-
-impl<T, const R: usize, const C: usize> Mul<T> for SMatrix<T, R, C> {
-    type Output = Self;
-
-    fn mul(self, _: T) -> Self {
-        self.never()
-    }
-}
+#[cfg(feature = "dim2")]
+pub(crate) use flags;
 
 /// For `anyhow::Error`: nothing here can fail, so there is no value of it.
 pub enum Error {}
@@ -213,34 +75,169 @@ impl fmt::Debug for Error {
 /// For `anyhow::Result`.
 pub type Result<T> = std::result::Result<T, Error>;
 
-/// For `memmap2::MmapMut`: ordinary memory, zeroed as a fresh anonymous map is, and like one never larger than was asked for.
-pub struct MmapMut(Vec<u8>);
+/// For `instant::now`: the time is only ever logged, so it stands still.
+pub fn now() -> f64 {
+    0.0
+}
+
+/// For `rayon::prelude`: what runs there at the same time runs here in plain order.
+pub mod prelude {
+    use std::slice::{Iter, IterMut};
+
+    pub trait PlainOrder<T> {
+        fn par_iter(&self) -> Iter<'_, T>;
+        fn par_iter_mut(&mut self) -> IterMut<'_, T>;
+        fn par_sort_by_key<K: Ord>(&mut self, key: impl Fn(&T) -> K);
+    }
+
+    impl<T> PlainOrder<T> for [T] {
+        fn par_iter(&self) -> Iter<'_, T> {
+            self.iter()
+        }
+
+        fn par_iter_mut(&mut self) -> IterMut<'_, T> {
+            self.iter_mut()
+        }
+
+        fn par_sort_by_key<K: Ord>(&mut self, key: impl Fn(&T) -> K) {
+            self.sort_by_key(key);
+        }
+    }
+}
+
+/// For `rapier::data`: a list that nothing is ever taken from.
+pub mod data {
+    use std::ops;
+
+    #[derive(Copy, Clone, Debug, PartialEq)]
+    pub struct Index(usize);
+
+    pub struct Arena<T>(Vec<T>);
+
+    impl<T> Arena<T> {
+        #[allow(clippy::new_without_default)]
+        pub fn new() -> Self {
+            Arena(vec![])
+        }
+
+        pub fn insert(&mut self, entry: T) -> Index {
+            self.0.push(entry);
+            Index(self.0.len() - 1)
+        }
+
+        pub fn get(&self, index: Index) -> Option<&T> {
+            self.0.get(index.0)
+        }
+
+        pub fn iter(&self) -> impl Iterator<Item = (Index, &T)> {
+            self.0.iter().enumerate().map(|(place, entry)| (Index(place), entry))
+        }
+    }
+
+    impl<T> ops::Index<Index> for Arena<T> {
+        type Output = T;
+
+        fn index(&self, index: Index) -> &T {
+            &self.0[index.0]
+        }
+    }
+
+    impl<T> ops::IndexMut<Index> for Arena<T> {
+        fn index_mut(&mut self, index: Index) -> &mut T {
+            &mut self.0[index.0]
+        }
+    }
+}
+
+/// For `sparkl2d_core`: what models say to a graphics card or to whoever chooses a substep's length, which nothing here asks, so
+/// that there are no values of it.
+pub mod core {
+    pub mod prelude {
+        pub enum ActiveTimestepBounds {}
+        pub enum CoreConstitutiveModel {}
+        pub enum CoreFailureModel {}
+        pub enum CorePlasticModel {}
+    }
+}
+
+/// For `memmap2::MmapMut`: zeroed memory that is never larger than was asked for, as a fresh anonymous map is, or that has a page
+/// wherever one was touched. A grid of the latter kind reaches every id, which takes more than a machine lets one map.
+pub enum MmapMut {
+    Whole(Vec<u8>),
+    Sparse(HashMap<usize, Box<Page>>),
+}
+
+/// As much as a region of the grid takes, and placed as a page of a map is as far as any node can tell.
+#[repr(align(64))]
+pub struct Page([u8; PAGE]);
+
+const PAGE: usize = 1 << 12;
 
 impl MmapMut {
     pub fn map_anon(length: usize) -> Result<Self> {
-        Ok(MmapMut(vec![0; length]))
+        Ok(MmapMut::Whole(vec![0; length]))
+    }
+
+    pub fn sparse() -> Self {
+        MmapMut::Sparse(HashMap::new())
+    }
+
+    /// How far the memory reaches.
+    #[allow(clippy::len_without_is_empty)]
+    pub fn len(&self) -> usize {
+        match self {
+            MmapMut::Whole(bytes) => bytes.len(),
+            MmapMut::Sparse(_) => usize::MAX,
+        }
     }
 }
 
-impl Deref for MmapMut {
-    type Target = [u8];
+/// The part of a page that a range within it is; only what was written can be read.
+impl Index<Range<usize>> for MmapMut {
+    type Output = [u8];
 
-    fn deref(&self) -> &[u8] {
-        &self.0
+    #[inline(always)]
+    fn index(&self, range: Range<usize>) -> &[u8] {
+        match self {
+            MmapMut::Whole(bytes) => &bytes[range],
+            MmapMut::Sparse(pages) => &pages[&(range.start / PAGE)].0[within(range)],
+        }
     }
 }
 
-impl DerefMut for MmapMut {
-    fn deref_mut(&mut self) -> &mut [u8] {
-        &mut self.0
+impl IndexMut<Range<usize>> for MmapMut {
+    #[inline(always)]
+    fn index_mut(&mut self, range: Range<usize>) -> &mut [u8] {
+        match self {
+            MmapMut::Whole(bytes) => &mut bytes[range],
+            MmapMut::Sparse(pages) => touched(pages, range),
+        }
     }
 }
+
+/// Kept out of the way of a whole map, which is the one that is timed.
+#[cold]
+#[inline(never)]
+fn touched(pages: &mut HashMap<usize, Box<Page>>, range: Range<usize>) -> &mut [u8] {
+    let page = pages.entry(range.start / PAGE).or_insert_with(|| Box::new(Page([0; PAGE])));
+    &mut page.0[within(range)]
+}
+
+fn within(range: Range<usize>) -> Range<usize> {
+    range.start % PAGE..range.start % PAGE + range.len()
+}
+
+/// For `bytemuck::Zeroable`.
+///
+/// # Safety
+/// All bits zero have to be a value of the type.
+pub unsafe trait Zeroable {}
 
 /// For `bytemuck::Pod`.
 ///
 /// # Safety
 /// Every bit pattern of the type's size has to be a value of it.
-pub unsafe trait Pod: Copy + 'static {}
+pub unsafe trait Pod: Zeroable + Copy + 'static {}
 
 /// For `bytemuck::from_bytes`, with its two refusals.
 pub fn from_bytes<T: Pod>(bytes: &[u8]) -> &T {
@@ -255,6 +252,6 @@ pub fn from_bytes_mut<T: Pod>(bytes: &mut [u8]) -> &mut T {
 }
 
 fn check_place<T>(bytes: &[u8]) {
-    assert_eq!(bytes.len(), std::mem::size_of::<T>());
-    assert_eq!(bytes.as_ptr() as usize % std::mem::align_of::<T>(), 0);
+    assert_eq!(bytes.len(), size_of::<T>());
+    assert_eq!(bytes.as_ptr() as usize % align_of::<T>(), 0);
 }

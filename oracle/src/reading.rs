@@ -1,5 +1,7 @@
 //! What the handed-over Rust has no function for, as documents 01 and 02 say it, and nothing that is taken from the port.
 
+use samples::{plane, Call};
+
 /// Document 02, request 09: the lower part of a list has the floor of half of it, the upper part is kept if its first id is at
 /// most the sought one, and of one entry or none nothing is left to halve.
 pub fn lookup(ids: &[u64], sought: u64) -> Option<usize> {
@@ -50,6 +52,108 @@ fn first_bad_region(ids: &[u64]) -> Option<usize> {
     let low_bits = ids.iter().position(|id| id & 0xFFF != 0);
     let earlier_of_pair = ids.windows(2).position(|pair| pair[0] >= pair[1]);
     low_bits.into_iter().chain(earlier_of_pair.map(|earlier| earlier + 1)).min()
+}
+
+pub const PARTICLE_FLOATS: u64 = samples::PARTICLE_FLOATS as u64;
+pub const PARTICLE_WORDS: u64 = samples::PARTICLE_WORDS as u64;
+
+pub const MOST_PARTICLES: u64 = 65_536;
+
+/// Which call of scatter it is: all regions, the one at a place, or all in an order of places.
+pub enum Which<'a> {
+    All,
+    Region(u64),
+    Order(&'a [u64]),
+}
+
+/// What the table says of a call of scatter: 1 to 10.
+pub fn scatter(which: &Which, call: &Call) -> Option<Refusal> {
+    let refused = |number: u32, index: Option<usize>| index.map(|index| Refusal { number, index });
+    let unless = |holds: bool| (!holds).then_some(0);
+    refused(1, unless(scatter_counts(which, call)))
+        .or_else(|| refused(2, unless(call.regions <= MOST_REGIONS && call.particles <= MOST_PARTICLES)))
+        .or_else(|| refused(3, unless(settings_are_good(call))))
+        .or_else(|| refused(4, bad_place(which, &call.ids)))
+        .or_else(|| refused(4, first_particle_with(&call.particle_words, PARTICLE_WORDS, |word| word > 1)))
+        .or_else(|| {
+            refused(5, first_particle_with(&call.particle_floats, PARTICLE_FLOATS, |bits| !f32::from_bits(bits).is_finite()))
+        })
+        .or_else(|| refused(6, first_bad_region(&call.ids)))
+        .or_else(|| refused(7, first_bad_range(call)))
+        .or_else(|| refused(8, first_cells(call).position(|cell| cell.is_none())))
+        .or_else(|| {
+            refused(9, first_cells(call).zip(own_regions(call)).position(|(cell, own)| cell.map(plane::region) != Some(own)))
+        })
+        .or_else(|| refused(10, first_cells(call).position(|cell| !is_listed(cell, &call.ids))))
+}
+
+fn scatter_counts(which: &Which, call: &Call) -> bool {
+    let lengths = [
+        (call.ids.len(), call.regions, 1),
+        (call.ranges.len(), call.regions, 2),
+        (call.particle_floats.len(), call.particles, PARTICLE_FLOATS),
+        (call.particle_words.len(), call.particles, PARTICLE_WORDS),
+        (call.node_floats.len(), call.regions, REGION_NODES * NODE_FLOATS),
+        (call.node_words.len(), call.regions, REGION_NODES * NODE_WORDS),
+    ];
+    let order_counts = match which {
+        Which::Order(order) => order.len() as u64 == call.regions,
+        _ => true,
+    };
+    order_counts && lengths.iter().all(|(length, count, each)| *length as u128 == u128::from(*count) * u128::from(*each))
+}
+
+fn settings_are_good(call: &Call) -> bool {
+    let range = 1.0 / 1048576.0..=1048576.0;
+    range.contains(&call.cell_width) && call.dt > 0.0 && call.dt.is_finite() && call.gravity.iter().all(|part| part.is_finite())
+}
+
+/// A place that is no region's; of an order, the index of the first such entry, or that names a region again, or that goes back
+/// to an earlier colour.
+fn bad_place(which: &Which, ids: &[u64]) -> Option<usize> {
+    let colour = |place: u64| plane::colour(ids[place as usize]);
+    match which {
+        Which::All => None,
+        Which::Region(place) => (*place >= ids.len() as u64).then_some(0),
+        Which::Order(order) => (0..order.len()).find(|index| {
+            let (before, place) = (&order[..*index], order[*index]);
+            place >= ids.len() as u64
+                || before.contains(&place)
+                || before.last().map_or(false, |before| colour(*before) > colour(place))
+        }),
+    }
+}
+
+/// The first particle with such a word among its own.
+fn first_particle_with(words: &[u32], each: u64, is_bad: impl Fn(u32) -> bool) -> Option<usize> {
+    words.iter().position(|word| is_bad(*word)).map(|place| place / each as usize)
+}
+
+/// The first region that does not start where those before it end, or that has more particles than are left; or, where
+/// particles are left over, the number of regions.
+fn first_bad_range(call: &Call) -> Option<usize> {
+    let mut end = 0;
+    for (place, range) in call.ranges.chunks(2).enumerate() {
+        if range[0] != end || range[1] > call.particles - end {
+            return Some(place);
+        }
+        end += range[1];
+    }
+    (end < call.particles).then_some(call.ids.len())
+}
+
+/// Of each particle, the first cell of its stencil, where r is in range.
+fn first_cells(call: &Call) -> impl Iterator<Item = Option<[u32; 2]>> + '_ {
+    (0..call.particles as usize).map(|particle| plane::first_cell(call.position(particle), call.cell_width))
+}
+
+/// Of each particle, the region whose range it is in.
+fn own_regions(call: &Call) -> impl Iterator<Item = u64> + '_ {
+    call.ids.iter().zip(call.ranges.chunks(2)).flat_map(|(id, range)| (0..range[1]).map(move |_| *id))
+}
+
+fn is_listed(cell: Option<[u32; 2]>, ids: &[u64]) -> bool {
+    cell.map_or(false, |cell| plane::regions(cell).iter().all(|region| ids.contains(region)))
 }
 
 #[cfg(test)]
@@ -112,5 +216,110 @@ mod tests {
         assert_eq!(clear(513, &ids, 513 * 112, 513 * 16), refused(2, 0));
         assert_eq!(clear(513, &ids, 513 * 112, 512 * 16), refused(1, 0));
         assert_eq!(clear(512, &ids[..512], 512 * 112, 512 * 16), refused(6, 0));
+    }
+
+    /// Regions 0, 4096 and 8192 with one particle each, at their first nodes, which reach no other region.
+    fn three() -> Call {
+        let mut call = Call::on(vec![0, 4096, 8192]);
+        call.ranges = vec![0, 1, 1, 1, 2, 1];
+        call.particles = 3;
+        call.particle_floats = vec![0; 78];
+        call.particle_words = vec![0; 12];
+        for (particle, position) in [[1f32, 1.0], [5.0, 1.0], [1.0, 5.0]].into_iter().enumerate() {
+            call.particle_floats[26 * particle..26 * particle + 2].copy_from_slice(&position.map(f32::to_bits));
+        }
+        call
+    }
+
+    /// What the table says of the three with these changes.
+    fn of(which: &Which, edits: &[&str]) -> Option<Refusal> {
+        scatter(which, &three().edited(&edits.iter().map(|edit| edit.parse().unwrap()).collect::<Vec<_>>()))
+    }
+
+    #[test]
+    fn nothing_is_said_of_good_calls() {
+        for which in [Which::All, Which::Region(0), Which::Region(2), Which::Order(&[0, 1, 2])] {
+            assert_eq!(of(&which, &[]), None);
+        }
+        assert_eq!(scatter(&Which::All, &Call::on(vec![])), None);
+        assert_eq!(scatter(&Which::Order(&[]), &Call::on(vec![])), None);
+        assert_eq!(scatter(&Which::Region(0), &Call::on(vec![])), refused(4, 0));
+    }
+
+    #[test]
+    fn lengths_come_before_limits_and_limits_before_settings() {
+        for edit in ["i#2", "s#5", "s#7", "f#77", "w#13", "m#335", "k#49", "r=2", "p=4", "r=18446744073709551615"] {
+            assert_eq!(of(&Which::All, &[edit, "h=7FC00000"]), refused(1, 0), "{}", edit);
+        }
+        assert_eq!(of(&Which::All, &["p=9223372036854775808", "f#0", "w#0"]), refused(1, 0));
+        assert_eq!(of(&Which::Order(&[0, 1]), &[]), refused(1, 0));
+        assert_eq!(of(&Which::All, &["*65537", "h=7FC00000"]), refused(2, 0));
+        assert_eq!(of(&Which::All, &["r=513", "i#513", "s#1026", "m#57456", "k#8208"]), refused(2, 0));
+    }
+
+    #[test]
+    fn settings_have_their_ranges() {
+        for edit in [
+            "h=357FFFFF",
+            "h=49800001",
+            "h=7F800000",
+            "h=BF800000",
+            "t=0",
+            "t=80000000",
+            "t=7F800000",
+            "x=FF800000",
+            "y=7FC00000",
+        ] {
+            assert_eq!(of(&Which::Region(9), &[edit, "w0=2"]), refused(3, 0), "{}", edit);
+        }
+        assert_eq!(of(&Which::All, &["t=1"]), None);
+        assert_eq!(of(&Which::All, &["h=35800000"]), refused(8, 0));
+        assert_eq!(of(&Which::All, &["h=49800000"]), refused(8, 0));
+    }
+
+    #[test]
+    fn a_calls_own_places_come_before_flags_and_flags_before_numbers() {
+        assert_eq!(of(&Which::Region(3), &["w5=2"]), refused(4, 0));
+        assert_eq!(of(&Which::Order(&[0, 1, 3]), &["w0=2"]), refused(4, 2));
+        assert_eq!(of(&Which::Order(&[0, 1, 1]), &["w0=2"]), refused(4, 2));
+        assert_eq!(of(&Which::Order(&[0, 2, 1]), &["w0=2"]), refused(4, 2));
+        assert_eq!(of(&Which::Order(&[2, 0, 1]), &[]), refused(4, 1));
+        assert_eq!(of(&Which::Order(&[2, 0, 1]), &["i2=0"]), refused(6, 2));
+        assert_eq!(of(&Which::All, &["w11=2", "f0=7F800000"]), refused(4, 2));
+        assert_eq!(of(&Which::All, &["f77=FFC00000", "f51=7F800000", "i0=1"]), refused(5, 1));
+    }
+
+    #[test]
+    fn ids_come_before_ranges_and_ranges_before_particles() {
+        assert_eq!(of(&Which::All, &["i1=0", "s0=1"]), refused(6, 1));
+        assert_eq!(of(&Which::All, &["s2=2", "f0=0"]), refused(7, 1));
+        assert_eq!(of(&Which::All, &["s3=FFFFFFFFFFFFFFFF", "f0=0"]), refused(7, 1));
+        assert_eq!(of(&Which::All, &["s5=0", "f0=0"]), refused(7, 3));
+        assert_eq!(of(&Which::All, &["s5=2", "f0=0"]), refused(7, 2));
+        let mut empty = Call::on(vec![]);
+        empty.particles = 1;
+        empty.particle_floats = vec![0; 26];
+        empty.particle_words = vec![0; 4];
+        assert_eq!(scatter(&Which::All, &empty), refused(7, 0));
+    }
+
+    #[test]
+    fn r_comes_before_the_region_and_that_before_its_neighbours() {
+        assert_eq!(of(&Which::All, &["f53=0", "f0=40A00000"]), refused(8, 2));
+        assert_eq!(of(&Which::All, &["f0=40A00000", "f26=40E00000"]), refused(9, 0));
+        assert_eq!(of(&Which::All, &["f26=40E00000"]), refused(10, 1));
+        assert_eq!(of(&Which::All, &["f0=40400000"]), None);
+        assert_eq!(of(&Which::All, &["f1=40400000", "f0=40400000"]), refused(10, 0));
+    }
+
+    #[test]
+    fn regions_are_the_rusts() {
+        let mut rng = Rng::new(SEED);
+        for _ in 0..1000 {
+            let cell = [0; 2].map(|_| rng.word() >> rng.below(32));
+            let packed = sparkl2d::geometry::way_in::pack(cell);
+            assert_eq!(plane::region(cell), packed & !0xFFF);
+            assert_eq!(plane::number_in_region(cell) as u64, packed >> 6 & 15);
+        }
     }
 }

@@ -54,4 +54,9 @@ pub mod way_in {
     pub fn nbh_region_shifts() -> Vec<u64> {
         super::nbh_region_shifts().to_vec()
     }
+
+    /// A grid over other memory than `new` maps, which is 28 bytes.
+    pub fn over<T>(cell_width: super::Real, memory: super::MmapMut) -> SpGrid<T> {
+        SpGrid { cell_width, memory, _phantom: super::PhantomData }
+    }
 }

@@ -3,9 +3,6 @@
 use super::word;
 use crate::rng::Rng;
 
-/// How every NaN is written, since nothing says which of its patterns an operation answers.
-pub const WRITTEN_NAN: u32 = 0x7FC0_0000;
-
 pub const SIGN: u32 = 1 << 31;
 pub const INFINITY: u32 = 0x7F80_0000;
 
@@ -28,15 +25,10 @@ pub const WILD: [f32; 12] = [
     1e20,
 ];
 
-/// Cell widths: powers of two, the ends of document 01's range among them, and others.
-pub const WIDTHS: [f32; 12] = [1.0, 0.5, 0.25, 2.0, 0.1, 0.05, 0.3, 3.0, 0.001, 1.0 / 3.0, 1048576.0, 1.0 / 1048576.0];
+pub use samples::random::WIDTHS;
 
 pub fn written(x: f32) -> u32 {
-    if x.is_nan() {
-        WRITTEN_NAN
-    } else {
-        x.to_bits()
-    }
+    samples::canonical(x.to_bits())
 }
 
 pub fn words(numbers: &[u32]) -> Vec<String> {
@@ -76,7 +68,7 @@ pub fn nans(rng: &mut Rng) -> Vec<u32> {
 }
 
 pub fn between(low: f32, high: f32, rng: &mut Rng) -> f32 {
-    low + (high - low) * ((rng.word() >> 8) as f32 / 16777216.0)
+    rng.between(low, high)
 }
 
 /// Anything: an f32 of `WILD`, a random pattern, or an everyday number.

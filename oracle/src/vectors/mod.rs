@@ -4,6 +4,7 @@ mod floats;
 mod grid;
 mod numeric;
 mod packing;
+mod scatter;
 
 use crate::rng::SEED;
 use crate::sha256::hex_digest;
@@ -20,6 +21,7 @@ pub const ALL: &[Vectors] = &[
     Vectors { questions: "crates/packing_runs/stdin", answers: "crates/packing_runs/stdout", make: packing::make },
     Vectors { questions: "crates/numeric_runs/stdin", answers: "crates/numeric_runs/stdout", make: numeric::make },
     Vectors { questions: "host/vectors/grid.questions", answers: "host/vectors/grid.answers", make: grid::make },
+    Vectors { questions: "host/vectors/scatter.questions", answers: "host/vectors/scatter.answers", make: scatter::make },
 ];
 
 impl Vectors {
@@ -96,8 +98,8 @@ pub fn decimal(number: impl Into<u64>) -> String {
 /// Reads a sheet's lines again, for the tests of each sheet.
 #[cfg(test)]
 mod format {
-    use super::floats::WRITTEN_NAN;
     use super::{word, Sheet};
+    use samples::WRITTEN_NAN;
     use std::collections::BTreeMap;
 
     pub fn fields(line: &str) -> Vec<&str> {

@@ -5,3 +5,8 @@ pub use self::physics::inv_exact;
 mod morton2;
 mod morton3;
 mod physics;
+
+/// For `parry::utils::hashmap`, whose map is the standard one with another hash.
+pub mod hashmap {
+    pub use std::collections::HashMap;
+}

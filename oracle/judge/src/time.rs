@@ -1,0 +1,157 @@
+//! How long clear and scatter take on as many particles and regions as there may be, here and in the handed-over Rust.
+
+use crate::archive::{self, Lists, Which};
+use mangerknot_sys::{mk_clear2, Refusal};
+use samples::{plane, Call, Rng, PARTICLE_FLOATS, PARTICLE_WORDS};
+use sparkl2d::scatter::Scene;
+use sparkl2d::MmapMut;
+use std::time::{Duration, Instant};
+
+/// Regions along x and y; those at the far edges have no particles, since stencils reach beyond a region.
+const COLUMNS: u32 = 32;
+const ROWS: u32 = 16;
+const PARTICLES: usize = 65_536;
+
+/// Times each side so often, in turn; says whether both leave the same nodes.
+pub fn run(repetitions: usize) -> bool {
+    println!("machine: {}; one thread; {} repetitions, medians", crate::machine(), repetitions);
+    let call = full_call();
+    println!("{} particles in {} regions", call.particles, call.regions);
+    let mut port = Port { call: call.clone() };
+    let mut rust = Rust { scene: Scene::new(&call, memory(&call)) };
+    let mut times = Times::default();
+    // A region without particles is scattered after the check of everything, and to no node.
+    let empty = Which::Region(call.regions as usize - 1);
+    for _ in 0..repetitions {
+        times.port_clear.push(timed(|| port.clear()));
+        times.port_scatter.push(timed(|| port.scatter(&Which::All)));
+        times.port_check.push(timed(|| port.scatter(&empty)));
+        times.rust_clear.push(timed(|| rust.scene.clear()));
+        times.rust_scatter.push(timed(|| rust.scene.scatter()));
+    }
+    say("clear", &mut times.port_clear, &mut times.rust_clear);
+    say("scatter", &mut times.port_scatter, &mut times.rust_scatter);
+    println!("of the port's scatter, its check: {:.3} ms", 1e3 * median(&mut times.port_check).as_secs_f64());
+    let (floats, words) = rust.scene.nodes();
+    let same = (&floats, &words) == (&port.call.node_floats, &port.call.node_words);
+    println!("nodes: {}", if same { "the same" } else { "DIFFERENT" });
+    same
+}
+
+#[derive(Default)]
+struct Times {
+    port_clear: Vec<Duration>,
+    port_scatter: Vec<Duration>,
+    port_check: Vec<Duration>,
+    rust_clear: Vec<Duration>,
+    rust_scatter: Vec<Duration>,
+}
+
+struct Port {
+    call: Call,
+}
+
+impl Port {
+    fn clear(&mut self) {
+        let Call { ids, node_floats, node_words, .. } = &mut self.call;
+        let (floats, words) = (node_floats.as_mut_ptr().cast(), node_words.as_mut_ptr());
+        expect_done(unsafe { mk_clear2(ids.len(), ids.as_ptr(), ids.len(), floats, node_floats.len(), words, node_words.len()) });
+    }
+
+    /// The lists are borrowed for the call alone, and the nodes are taken out meanwhile.
+    fn scatter(&mut self, which: &Which) {
+        let mut node_floats = std::mem::take(&mut self.call.node_floats);
+        let mut node_words = std::mem::take(&mut self.call.node_words);
+        let lists = Lists {
+            ids: &self.call.ids,
+            ranges: &self.call.ranges,
+            particle_floats: &self.call.particle_floats,
+            particle_words: &self.call.particle_words,
+            node_floats: &mut node_floats,
+            node_words: &mut node_words,
+        };
+        expect_done(archive::scatter(which, &self.call, lists));
+        (self.call.node_floats, self.call.node_words) = (node_floats, node_words);
+    }
+}
+
+fn expect_done(refusal: Refusal) {
+    assert_eq!(refusal, Refusal { number: 0, index: 0 });
+}
+
+struct Rust {
+    scene: Scene,
+}
+
+/// One map that reaches the last region, as the Rust would have it; nothing is looked up in it.
+fn memory(call: &Call) -> MmapMut {
+    let last = *call.ids.last().expect("a region");
+    MmapMut::map_anon(last as usize + 4096).expect("memory")
+}
+
+fn timed(work: impl FnOnce()) -> Duration {
+    let start = Instant::now();
+    work();
+    start.elapsed()
+}
+
+fn median(times: &mut [Duration]) -> Duration {
+    times.sort_unstable();
+    times[times.len() / 2]
+}
+
+fn say(what: &str, port: &mut [Duration], rust: &mut [Duration]) {
+    let (port, rust) = (median(port), median(rust));
+    let ratio = port.as_secs_f64() / rust.as_secs_f64();
+    println!("{}: port {:.3} ms, Rust {:.3} ms, ratio {:.2}", what, 1e3 * port.as_secs_f64(), 1e3 * rust.as_secs_f64(), ratio);
+}
+
+/// A block of regions, filled evenly but for its far edges, with everyday particles.
+fn full_call() -> Call {
+    let mut ids: Vec<u64> =
+        (0..COLUMNS * ROWS).map(|place| plane::region([4 * (place % COLUMNS), 4 * (place / COLUMNS)])).collect();
+    ids.sort_unstable();
+    let mut call = Call { dt: 0.001, gravity: [0.0, -9.81], ..Call::on(ids) };
+    let cells = [4 * (COLUMNS - 1), 4 * (ROWS - 1)];
+    let mut rng = Rng::new(1);
+    let mut records: Vec<(u64, [f32; PARTICLE_FLOATS])> = (0..PARTICLES).map(|_| particle(cells, &mut rng)).collect();
+    records.sort_by_key(|(region, _)| *region);
+    call.particles = PARTICLES as u64;
+    call.particle_floats = records.iter().flat_map(|(_, floats)| floats.map(f32::to_bits)).collect();
+    call.particle_words = vec![0; PARTICLES * PARTICLE_WORDS];
+    for (place, id) in call.ids.iter().enumerate() {
+        let before = |least: u64| records.partition_point(|(region, _)| *region < least) as u64;
+        let (start, end) = (before(*id), before(id + 1));
+        call.ranges[2 * place..2 * place + 2].copy_from_slice(&[start, end - start]);
+    }
+    call
+}
+
+/// A particle somewhere in these cells, with the region that it is in.
+fn particle(cells: [u32; 2], rng: &mut Rng) -> (u64, [f32; PARTICLE_FLOATS]) {
+    let mut floats = [0; PARTICLE_FLOATS].map(|_| rng.between(-1.0, 1.0));
+    [floats[0], floats[1]] = cells.map(|cells| rng.between(0.5, cells as f32));
+    [floats[12], floats[13]] = [rng.between(0.5, 1.5), 0.25];
+    let first = plane::first_cell([floats[0], floats[1]], 1.0).expect("a place in range");
+    (plane::region(first), floats)
+}
+
+#[cfg(test)]
+mod tests {
+    use super::*;
+
+    #[test]
+    fn the_call_is_as_large_as_may_be_and_accepted() {
+        let call = full_call();
+        assert_eq!((call.regions, call.particles), (512, 65_536));
+        let mut port = Port { call };
+        port.scatter(&Which::All);
+        assert!(port.call.hits(None).iter().filter(|hit| **hit).count() > 7000);
+    }
+
+    #[test]
+    fn the_median_is_in_the_middle() {
+        let of = |times: &[u64]| median(&mut times.iter().map(|time| Duration::from_secs(*time)).collect::<Vec<_>>());
+        assert_eq!([of(&[9, 1, 5]), of(&[7])], [Duration::from_secs(5), Duration::from_secs(7)]);
+    }
+}

@@ -1,0 +1,11 @@
+pub use self::grid_node::{GridNode, GridNodeFlags};
+pub use self::particle::Particle;
+pub use self::particle_model::{ParticleModel, ParticleModelHandle, ParticleModelSet};
+pub use self::particle_set::ParticleSet;
+
+mod grid_node;
+pub mod models;
+mod particle;
+mod particle_model;
+mod particle_set;
+pub mod solver;

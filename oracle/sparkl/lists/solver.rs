@@ -1,0 +1,4 @@
+mod particle_to_grid;
+
+/// The name that the stages belong to; the file that declares it has the whole step, which is not built here.
+pub struct MlsSolver;

@@ -1,0 +1,295 @@
+//! For `parry::math` and the parts of nalgebra behind it: vectors, points and matrices, each operation of every component by
+//! itself and once rounded, sums of products from left to right.
+
+use std::ops::{Add, AddAssign, Div, Index, Mul, Neg, Sub};
+
+pub type Kernel = crate::kernel::QuadraticKernel;
+pub type Real = f32;
+pub type Matrix<T> = SMatrix<T, DIM, DIM>;
+
+#[cfg(feature = "dim2")]
+pub const DIM: usize = 2;
+#[cfg(feature = "dim3")]
+pub const DIM: usize = 3;
+
+/// For `nalgebra::zero`.
+pub fn zero<T: Default>() -> T {
+    T::default()
+}
+
+// Vectors.
+
+#[derive(Copy, Clone, Debug, Default, PartialEq)]
+pub struct Vector<T> {
+    pub x: T,
+    pub y: T,
+    #[cfg(feature = "dim3")]
+    pub z: T,
+}
+
+/// Nothing built here can tell a point from a vector, so one struct is both.
+pub type Point<T> = Vector<T>;
+
+impl<T> Vector<T> {
+    pub fn map<R>(self, mut f: impl FnMut(T) -> R) -> Vector<R> {
+        Vector {
+            x: f(self.x),
+            y: f(self.y),
+            #[cfg(feature = "dim3")]
+            z: f(self.z),
+        }
+    }
+
+    pub fn zip_map<R>(self, other: Self, mut f: impl FnMut(T, T) -> R) -> Vector<R> {
+        Vector {
+            x: f(self.x, other.x),
+            y: f(self.y, other.y),
+            #[cfg(feature = "dim3")]
+            z: f(self.z, other.z),
+        }
+    }
+
+    pub fn cast<R>(self) -> Vector<R>
+    where
+        T: Cast<R>,
+    {
+        self.map(T::cast)
+    }
+}
+
+/// The conversions that `cast` is used for, which are Rust's `as`.
+pub trait Cast<R> {
+    fn cast(self) -> R;
+}
+
+impl Cast<Real> for u32 {
+    fn cast(self) -> Real {
+        self as Real
+    }
+}
+
+impl Cast<Real> for usize {
+    fn cast(self) -> Real {
+        self as Real
+    }
+}
+
+impl<T: Copy> Vector<T> {
+    pub fn repeat(part: T) -> Self {
+        Vector {
+            x: part,
+            y: part,
+            #[cfg(feature = "dim3")]
+            z: part,
+        }
+    }
+}
+
+impl Vector<Real> {
+    pub fn zeros() -> Self {
+        zero()
+    }
+}
+
+#[cfg(feature = "dim2")]
+impl<T> From<[T; 2]> for Vector<T> {
+    fn from([x, y]: [T; 2]) -> Self {
+        Vector { x, y }
+    }
+}
+
+#[cfg(feature = "dim3")]
+impl<T> From<[T; 3]> for Vector<T> {
+    fn from([x, y, z]: [T; 3]) -> Self {
+        Vector { x, y, z }
+    }
+}
+
+impl Mul<Real> for Vector<Real> {
+    type Output = Self;
+
+    fn mul(self, factor: Real) -> Self {
+        self.map(|part| part * factor)
+    }
+}
+
+impl Mul<Vector<Real>> for Real {
+    type Output = Vector<Real>;
+
+    fn mul(self, vector: Vector<Real>) -> Vector<Real> {
+        vector.map(|part| self * part)
+    }
+}
+
+impl Mul<&Vector<Real>> for Real {
+    type Output = Vector<Real>;
+
+    fn mul(self, vector: &Vector<Real>) -> Vector<Real> {
+        self * *vector
+    }
+}
+
+impl Div<Real> for Vector<Real> {
+    type Output = Self;
+
+    fn div(self, divisor: Real) -> Self {
+        self.map(|part| part / divisor)
+    }
+}
+
+impl Div<Real> for &Vector<Real> {
+    type Output = Vector<Real>;
+
+    fn div(self, divisor: Real) -> Vector<Real> {
+        *self / divisor
+    }
+}
+
+impl Neg for Vector<Real> {
+    type Output = Self;
+
+    fn neg(self) -> Self {
+        self.map(|part| -part)
+    }
+}
+
+impl Add for Vector<Real> {
+    type Output = Self;
+
+    fn add(self, other: Self) -> Self {
+        self.zip_map(other, |one, other| one + other)
+    }
+}
+
+impl AddAssign for Vector<Real> {
+    fn add_assign(&mut self, other: Self) {
+        *self = *self + other;
+    }
+}
+
+impl Sub for Vector<Real> {
+    type Output = Self;
+
+    fn sub(self, other: Self) -> Self {
+        self.zip_map(other, |one, other| one - other)
+    }
+}
+
+// Matrices.
+
+/// For `nalgebra::SMatrix`, by rows. `physics.rs` names more of it, in functions that nothing here asks.
+#[derive(Copy, Clone, Debug, PartialEq)]
+pub struct SMatrix<T, const R: usize, const C: usize>(pub [[T; C]; R]);
+
+impl<const R: usize, const C: usize> SMatrix<Real, R, C> {
+    pub fn zeros() -> Self {
+        SMatrix([[0.0; C]; R])
+    }
+
+    pub fn identity() -> Self {
+        let mut made = Self::zeros();
+        (0..R.min(C)).for_each(|place| made.0[place][place] = 1.0);
+        made
+    }
+
+    pub fn zip_map(&self, other: &Self, mut f: impl FnMut(Real, Real) -> Real) -> Self {
+        let mut made = *self;
+        for (part, other) in made.0.iter_mut().flatten().zip(other.0.iter().flatten()) {
+            *part = f(*part, *other);
+        }
+        made
+    }
+
+    fn map(&self, mut f: impl FnMut(Real) -> Real) -> Self {
+        self.zip_map(self, |part, _| f(part))
+    }
+
+    pub fn min(&self) -> Real {
+        self.0.iter().flatten().copied().fold(Real::INFINITY, Real::min)
+    }
+
+    pub fn trace(&self) -> Real {
+        (0..R.min(C)).map(|place| self.0[place][place]).sum()
+    }
+
+    pub fn transpose(&self) -> SMatrix<Real, C, R> {
+        let mut made = SMatrix::zeros();
+        (0..R).for_each(|row| (0..C).for_each(|column| made.0[column][row] = self.0[row][column]));
+        made
+    }
+}
+
+impl SMatrix<Real, 2, 2> {
+    pub fn determinant(&self) -> Real {
+        let [[a, b], [c, d]] = self.0;
+        a * d - b * c
+    }
+}
+
+impl<T, const R: usize, const C: usize> Index<(usize, usize)> for SMatrix<T, R, C> {
+    type Output = T;
+
+    fn index(&self, (row, column): (usize, usize)) -> &T {
+        &self.0[row][column]
+    }
+}
+
+impl<const R: usize, const C: usize> Add<SMatrix<Real, R, C>> for &SMatrix<Real, R, C> {
+    type Output = SMatrix<Real, R, C>;
+
+    fn add(self, other: SMatrix<Real, R, C>) -> SMatrix<Real, R, C> {
+        self.zip_map(&other, |one, other| one + other)
+    }
+}
+
+impl<const R: usize, const C: usize> Sub for SMatrix<Real, R, C> {
+    type Output = Self;
+
+    fn sub(self, other: Self) -> Self {
+        self.zip_map(&other, |one, other| one - other)
+    }
+}
+
+impl<const R: usize, const C: usize> Sub<SMatrix<Real, R, C>> for &SMatrix<Real, R, C> {
+    type Output = SMatrix<Real, R, C>;
+
+    fn sub(self, other: SMatrix<Real, R, C>) -> SMatrix<Real, R, C> {
+        *self - other
+    }
+}
+
+impl<const R: usize, const C: usize> Mul<Real> for SMatrix<Real, R, C> {
+    type Output = Self;
+
+    fn mul(self, factor: Real) -> Self {
+        self.map(|part| part * factor)
+    }
+}
+
+impl<const R: usize, const C: usize> Mul<SMatrix<Real, R, C>> for Real {
+    type Output = SMatrix<Real, R, C>;
+
+    fn mul(self, matrix: SMatrix<Real, R, C>) -> SMatrix<Real, R, C> {
+        matrix.map(|part| self * part)
+    }
+}
+
+#[cfg(feature = "dim2")]
+impl Mul<Vector<Real>> for Matrix<Real> {
+    type Output = Vector<Real>;
+
+    fn mul(self, vector: Vector<Real>) -> Vector<Real> {
+        Vector::from(self.0.map(|[x, y]| x * vector.x + y * vector.y))
+    }
+}
+
+/// `physics.rs` names it, in a function that nothing here asks.
+pub struct DecomposedTensor {
+    pub deviatoric_part: Matrix<Real>,
+}
+
+impl DecomposedTensor {
+    pub fn decompose(tensor: &Matrix<Real>) -> Self {
+        DecomposedTensor { deviatoric_part: tensor - Matrix::identity() * (tensor.trace() / DIM as Real) }
+    }
+}

@@ -1,0 +1,649 @@
+//! Questions to the three calls of scatter. What a call is refused for is `reading`'s answer; the nodes of one that is not are the
+//! handed-over Rust's. It has no call for one region: that is its scatter with the particles of no other region. Nor has it one
+//! in an order of regions: that has to leave what its scatter leaves.
+
+use super::floats::patterns;
+use super::{decimal, Sheet};
+use crate::reading::{self, Which};
+use crate::rng::{Rng, SEED};
+use samples::lines::Edit;
+use samples::random::{Numbers, Old, Style, LAST_CELL, WIDTHS};
+use samples::{Call, PARTICLE_FLOATS, PARTICLE_WORDS, REGION_FLOATS, REGION_NODES};
+use sparkl2d::scatter::Scene;
+use sparkl2d::MmapMut;
+
+const ABOUT: &str = "questions, and the answers of the handed-over Rust and of oracle's own reading to them, line by line.";
+
+/// The handed-over files that the nodes come from.
+const SOURCES: [&str; 6] = [
+    "src/dynamics/solver/particle_to_grid.rs",
+    "src/dynamics/particle.rs",
+    "src/dynamics/grid_node.rs",
+    "src/geometry/sp_grid.rs",
+    "src_core/dynamics/solver/kernel.rs",
+    "src/utils/physics.rs",
+];
+
+const LEGEND: [&str; 17] = [
+    "Fields, between tabs: W an f32's bits in 8 hex digits, H a u64 in 16, D a decimal, P a particle (26 floats and 4 words, each in 8",
+    "hex digits), N a node (7 floats and a word), or 0 for a node of zeros, E a change.",
+    "b a call D W W W W D [H D D].. D P.. N.. = D: the number that it has in the lines below; h, dt, gravity x and y; how many regions,",
+    "  of each the id, start and count; how many particles, and these; 16 nodes for each region. How many nodes there are",
+    "f the scatter D E.. = D D N..: the call, with changes",
+    "o the scatter of one region D D E.. = D D N..: the call, the region's place, changes",
+    "q the scatter in an order D D D.. E.. = D D N..: the call, how many places there are and these, changes",
+    "  Of all three: number and index and, where the number is 0, every node after the call: = for one that no particle reaches, which",
+    "  keeps every bit; in the others a NaN is 7FC00000. Where the number is not 0, every lent word is as it was.",
+    "Changes, in their order:",
+    "  h=W t=W x=W y=W   cell width, dt, gravity",
+    "  r=D p=D           the counts of regions and of particles, whatever the lists have",
+    "  iD=X sD=X fD=X wD=X   an entry of the ids, of the starts and counts, of the particles' floats, of their words; X in hex",
+    "  iD sD fD wD mD kD with # before the D: the length of these, of the nodes' floats and of their words; what is missing is 0",
+    "  *D                the particles are the first one, D times, and all of the first region",
+    "Numbers are `reading`'s, nodes the Rust's.",
+    "End of the header.",
+];
+
+pub fn make() -> Sheet {
+    let mut book = Book { sheet: Sheet::titled("Scatter", ABOUT, &SOURCES, &LEGEND), calls: vec![], rng: Rng::new(SEED) };
+    book.accepted();
+    book.refused();
+    book.sheet
+}
+
+/// The sheet, and the calls that stand in it already.
+struct Book {
+    sheet: Sheet,
+    calls: Vec<Call>,
+    rng: Rng,
+}
+
+impl Book {
+    /// Writes a call down; its number is what later lines name it by.
+    fn add(&mut self, call: Call) -> usize {
+        let number = self.calls.len();
+        let mut fields = vec![decimal(number as u64)];
+        fields.extend(call.fields());
+        self.sheet.row("b", fields, vec![decimal(call.node_words.len() as u64)]);
+        self.calls.push(call);
+        number
+    }
+
+    fn ask(&mut self, number: usize, which: &Which, edits: &[Edit]) {
+        let mut fields = vec![decimal(number as u64)];
+        let operation = match which {
+            Which::All => "f",
+            Which::Region(place) => {
+                fields.push(decimal(*place));
+                "o"
+            }
+            Which::Order(order) => {
+                fields.push(decimal(order.len() as u64));
+                fields.extend(order.iter().map(|place| decimal(*place)));
+                "q"
+            }
+        };
+        fields.extend(edits.iter().map(Edit::to_string));
+        let answer = answer(which, &self.calls[number].edited(edits));
+        self.sheet.row(operation, fields, answer);
+    }
+
+    /// The call by all three: a region that has particles, and an order that is not the list's.
+    fn ask_all(&mut self, number: usize, edits: &[Edit]) {
+        self.ask(number, &Which::All, edits);
+        if let Some(place) = self.busy_region(number) {
+            self.ask(number, &Which::Region(place), edits);
+        }
+        let order = self.order(number);
+        self.ask(number, &Which::Order(&order), edits);
+    }
+
+    fn busy_region(&mut self, number: usize) -> Option<u64> {
+        let ranges = self.calls[number].ranges.chunks(2).zip(0..);
+        let busy: Vec<u64> = ranges.filter(|(range, _)| range[1] > 0).map(|(_, place)| place).collect();
+        (!busy.is_empty()).then(|| self.rng.one_of(&busy))
+    }
+
+    /// The regions colour by colour, shuffled within each.
+    fn order(&mut self, number: usize) -> Vec<u64> {
+        samples::random::order(&self.calls[number], &mut self.rng)
+    }
+}
+
+fn answer(which: &Which, call: &Call) -> Vec<String> {
+    match reading::scatter(which, call) {
+        Some(refusal) => vec![decimal(refusal.number), decimal(refusal.index as u64)],
+        None => {
+            let mut fields = vec![decimal(0u32); 2];
+            fields.extend(nodes(which, call));
+            fields
+        }
+    }
+}
+
+/// The nodes that the Rust leaves.
+fn nodes(which: &Which, call: &Call) -> Vec<String> {
+    let mut scene = Scene::new(call, MmapMut::sparse());
+    if let Which::Region(place) = which {
+        scene.only(*place as usize);
+    }
+    scene.scatter();
+    let (floats, words) = scene.nodes();
+    call.answered((&floats, &words), &scene.hits())
+}
+
+// Calls that are done.
+
+/// A particle's fields by their places in its record.
+const MASS: usize = 12;
+const VOLUME: usize = 13;
+const PHASE: usize = 14;
+const CRACK: usize = 15;
+const PSI: usize = 16;
+const FAILED: usize = 0;
+
+/// Document 01's listing: one particle of mass 64 at (1, 1) with the velocity (1, 0).
+fn listing() -> Call {
+    let mut call = Call::on(vec![0]);
+    call.ranges = vec![0, 1];
+    call.particles = 1;
+    call.particle_floats = vec![0; PARTICLE_FLOATS];
+    call.particle_words = vec![0; PARTICLE_WORDS];
+    for (place, float) in [(0, 1.0), (1, 1.0), (2, 1.0), (MASS, 64.0), (VOLUME, 1.0)] {
+        call.particle_floats[place] = f32::to_bits(float);
+    }
+    call
+}
+
+/// What is asked of each field by itself: zeros, the least and the largest.
+const ENDS: [f32; 8] = [0.0, -0.0, 1e-45, -1e-45, f32::MIN_POSITIVE, 1e-20, f32::MAX, f32::MIN];
+
+/// Phases and crack factors about the point where the rule changes.
+const SIGNS: [f32; 6] = [1.0, 0.0, -0.0, -1.0, 1e-45, -1e-45];
+
+impl Book {
+    fn accepted(&mut self) {
+        let listing = self.add(listing());
+        self.ask_all(listing, &[]);
+        self.one_field_at_a_time();
+        self.phases_and_cracks();
+        for style in styles(&mut self.rng) {
+            let call = style.sample(&mut self.rng);
+            let number = self.add(call);
+            self.ask(number, &Which::All, &[]);
+            let place = self.busy_region(number).expect("a particle");
+            self.ask(number, &Which::Region(place), &[]);
+        }
+        self.in_orders();
+        self.at_the_limits();
+        self.empty();
+    }
+
+    /// A particle that has everything, in a cell whose stencil reaches four regions.
+    fn full_particle(&mut self) -> usize {
+        let mut call = Style::plain(0.5, [3, 2], [1, 1], 1).sample(&mut self.rng);
+        for (place, float) in [(PHASE, 0.5f32), (CRACK, 2.0), (PSI, 0.75)] {
+            call.particle_floats[place] = float.to_bits();
+        }
+        call.particle_words[FAILED] = 0;
+        self.add(call)
+    }
+
+    fn one_field_at_a_time(&mut self) {
+        let number = self.full_particle();
+        for end in ENDS.map(f32::to_bits) {
+            for place in 2..PARTICLE_FLOATS {
+                self.ask(number, &Which::All, &[Edit::Entry('f', place, u64::from(end))]);
+            }
+            for letter in ['x', 'y'] {
+                self.ask(number, &Which::All, &[Edit::Setting(letter, end)]);
+            }
+        }
+        for dt in [1e-45, 1e-20, 0.5, 3.0, 1e20, f32::MAX].map(f32::to_bits) {
+            self.ask(number, &Which::All, &[Edit::Setting('t', dt)]);
+        }
+        for word in 0..PARTICLE_WORDS {
+            self.ask(number, &Which::All, &[Edit::Entry('w', word, 1)]);
+        }
+    }
+
+    fn phases_and_cracks(&mut self) {
+        let number = self.full_particle();
+        for (phase, crack) in SIGNS.iter().flat_map(|phase| SIGNS.map(|crack| (*phase, crack))) {
+            for failed in [0, 1] {
+                let float = |place: usize, float: f32| Edit::Entry('f', place, u64::from(float.to_bits()));
+                self.ask(number, &Which::All, &[float(PHASE, phase), float(CRACK, crack), Edit::Entry('w', FAILED, failed)]);
+            }
+        }
+    }
+
+    fn in_orders(&mut self) {
+        for place in 0..24 {
+            let side = [3, 5, 9, 14][place % 4];
+            let style = Style { other_regions: 2, ..Style::plain(WIDTHS[place % 12], [place as u32, 7], [side, side], 10) };
+            let call = style.sample(&mut self.rng);
+            let number = self.add(call);
+            self.ask_all(number, &[]);
+        }
+    }
+
+    fn at_the_limits(&mut self) {
+        let number = self.add(limit());
+        self.ask_all(number, &[]);
+        self.ask(number, &Which::Region(511), &[]);
+        let copied = self.full_particle();
+        for count in [2, 3, 1000, 65535, 65536] {
+            self.ask_all(copied, &[Edit::Copies(count)]);
+        }
+    }
+
+    fn empty(&mut self) {
+        for call in [Call::on(vec![]), Call::on(first_regions(1)), Call::on(first_regions(3))] {
+            let regions = call.regions;
+            let number = self.add(call);
+            self.ask_all(number, &[]);
+            (0..=regions).for_each(|place| self.ask(number, &Which::Region(place), &[]));
+        }
+    }
+}
+
+/// The listing's particle in the first of as many regions as there may be.
+fn limit() -> Call {
+    let Call { particles, particle_floats, particle_words, .. } = listing();
+    let ranges = [vec![0, 1], [1, 0].repeat(511)].concat();
+    Call { ranges, particles, particle_floats, particle_words, ..Call::on(first_regions(512)) }
+}
+
+fn first_regions(count: u64) -> Vec<u64> {
+    (0..count).map(|place| place << 12).collect()
+}
+
+/// One region more than may be, and lengths that match.
+fn over_512() -> Vec<Edit> {
+    let lengths = [('i', 513), ('s', 2 * 513), ('m', 513 * REGION_FLOATS), ('k', 513 * REGION_NODES)];
+    let mut edits = vec![Edit::Count('r', 513)];
+    edits.extend(lengths.map(|(letter, length)| Edit::Length(letter, length)));
+    edits
+}
+
+/// Dense and thin samples, few regions and many, the ends of axes, and numbers and nodes of every kind.
+fn styles(rng: &mut Rng) -> Vec<Style> {
+    let mut found = vec![];
+    for width in WIDTHS {
+        found.push(Style::plain(width, [0, 1], [5, 5], 7));
+        found.push(Style { old: Old::Numbers, ..Style::plain(width, [2, 3], [2, 2], 4) });
+    }
+    for cell in 0..16 {
+        found.push(Style::plain(0.1, [4 + cell % 4, 8 + cell / 4], [1, 1], 2));
+    }
+    found.extend([12, 40, 80].map(|count| Style::plain(0.25, [6, 6], [1, 1], count)));
+    found.extend([(20, 20), (40, 30), (60, 60)].map(|(side, count)| Style::plain(1.0, [side, 0], [side, side], count)));
+    for (place, width) in WIDTHS.into_iter().enumerate() {
+        let end = LAST_CELL - place as u32 % 5;
+        found.push(Style::plain(width, [end, [0, end, 40000][place % 3]], [5, 2], 3));
+        found.push(Style::plain(width, [20000 + 3 * place as u32, end], [2, 5], 3));
+    }
+    for numbers in [Numbers::Everyday, Numbers::Mixed, Numbers::Huge, Numbers::Tiny, Numbers::Any] {
+        for old in [Old::Empty, Old::Zeros, Old::Numbers, Old::Patterns] {
+            let places = (0..6).map(|place| Style::plain(WIDTHS[place % 12], [place as u32, 2], [3, 2], 1 + 2 * place));
+            found.extend(places.map(|style| Style { numbers, old, other_regions: 1, ..style }));
+        }
+    }
+    found.extend((0..40).map(|_| Style { particles: 3, other_regions: 0, window: [3, 2], ..Style::any(rng) }));
+    found
+}
+
+// Calls that are refused.
+
+impl Book {
+    fn refused(&mut self) {
+        for number in self.good_calls() {
+            let faults = faults(&self.calls[number]);
+            for edits in &faults {
+                self.ask_all(number, edits);
+            }
+            self.bad_places(number);
+            for _ in 0..150 {
+                let edits = together(&faults, &mut self.rng);
+                self.ask_all(number, &edits);
+            }
+        }
+        self.too_many();
+        self.last_records();
+    }
+
+    /// A few regions and particles, one of the calls with nodes of any pattern.
+    fn good_calls(&mut self) -> Vec<usize> {
+        let near = Style::plain(1.0, [2, 2], [5, 5], 8);
+        let strange = Style { old: Old::Patterns, ..Style::plain(0.3, [21, 38], [3, 6], 5) };
+        let styles = [near, strange, Style::plain(1048576.0, [3, 3], [1, 1], 2)];
+        styles
+            .into_iter()
+            .map(|style| style.sample(&mut self.rng))
+            .collect::<Vec<_>>()
+            .into_iter()
+            .map(|call| self.add(call))
+            .collect()
+    }
+
+    /// Places and orders that are no good, alone, and with something wrong before or after them.
+    fn bad_places(&mut self, number: usize) {
+        let (regions, order) = (self.calls[number].regions, self.order(number));
+        let beside = [vec![], vec![Edit::Setting('t', 0)], vec![Edit::Entry('w', 1, 2)], vec![Edit::Entry('i', 0, 1)]];
+        let places = [regions - 1, regions, regions + 1, 1 << 32, 1 << 63, u64::MAX];
+        for edits in &beside {
+            places.iter().for_each(|place| self.ask(number, &Which::Region(*place), edits));
+        }
+        for (place, bad) in bad_orders(&order, regions).iter().enumerate() {
+            self.ask(number, &Which::Order(bad), &beside[place % beside.len()]);
+            self.ask(number, &Which::Order(bad), &[]);
+        }
+        // Colours are those of the ids that are given, also where these are refused later.
+        for place in 0..regions as usize {
+            let other_colour = self.calls[number].ids[place] ^ 0x3000;
+            self.ask(number, &Which::Order(&order), &[Edit::Entry('i', place, other_colour)]);
+        }
+    }
+
+    /// More regions or particles than may be, whatever else is wrong.
+    fn too_many(&mut self) {
+        let number = self.full_particle();
+        let no_width = vec![Edit::Setting('h', 0)];
+        let mut faults =
+            vec![(1, over_512()), (65536, over_512()), (65537, over_512()), (65537, vec![]), (70000, no_width.clone())];
+        faults.push((3, [over_512(), no_width].concat()));
+        for (copies, more) in faults {
+            let edits = [vec![Edit::Copies(copies)], more].concat();
+            self.ask_all(number, &edits);
+            self.ask(number, &Which::Order(&(0..513).collect::<Vec<_>>()), &edits);
+        }
+    }
+
+    /// The last of as many regions and particles as there may be.
+    fn last_records(&mut self) {
+        let number = self.add(limit());
+        let mut entries = vec![('i', 511, 511 << 12 | 64), ('i', 511, 0), ('s', 1022, 0), ('s', 1023, 1)];
+        entries.push(('s', 1, 0));
+        for (letter, place, entry) in entries {
+            self.ask_all(number, &[Edit::Entry(letter, place, entry)]);
+        }
+        for last in [511, 512] {
+            let mut order = self.order(number);
+            order[511] = last;
+            self.ask(number, &Which::Order(&order), &[]);
+        }
+        let number = self.full_particle();
+        let at = |place: usize, float: f32| Edit::Entry('f', 65535 * PARTICLE_FLOATS + place, u64::from(float.to_bits()));
+        let flag = Edit::Entry('w', 65536 * PARTICLE_WORDS - 1, 2);
+        for edit in [flag, at(25, f32::INFINITY), at(0, 0.0), at(0, 9.0), at(1, 1e9)] {
+            self.ask_all(number, &[Edit::Copies(65536), edit]);
+        }
+    }
+}
+
+/// Orders with an entry out of range, named again or exchanged with the next at each place, and orders of another length.
+fn bad_orders(order: &[u64], regions: u64) -> Vec<Vec<u64>> {
+    let mut found = vec![];
+    for place in 0..order.len() {
+        let with = |entry: u64| {
+            let mut other = order.to_vec();
+            other[place] = entry;
+            other
+        };
+        found.extend([with(regions + place as u64), with(u64::MAX), with(order[(place + 1) % order.len()]), with(order[0])]);
+        let mut exchanged = order.to_vec();
+        exchanged.swap(place, (place + 1) % order.len());
+        found.push(exchanged);
+    }
+    let mut reversed = order.to_vec();
+    reversed.reverse();
+    found.extend([reversed, vec![], order[1..].to_vec(), [order, &[0]].concat(), [order, order].concat()]);
+    found
+}
+
+/// Changes that each break a rule, or now and then none.
+fn faults(call: &Call) -> Vec<Vec<Edit>> {
+    let mut found = wrong_lengths(call);
+    found.extend(wrong_counts(call));
+    found.push(over_512());
+    found.extend(wrong_settings());
+    found.extend(wrong_words(call));
+    found.extend(wrong_floats(call));
+    found.extend(wrong_ids(call));
+    found.extend(wrong_ranges(call));
+    found.extend(wrong_positions(call));
+    found
+}
+
+/// Several faults at once. Entries come before lengths, so that each is still there when it is changed.
+fn together(faults: &[Vec<Edit>], rng: &mut Rng) -> Vec<Edit> {
+    let count = 2 + rng.below(3);
+    let mut edits: Vec<Edit> = (0..count).flat_map(|_| faults[rng.below(faults.len() as u64) as usize].clone()).collect();
+    edits.sort_by_key(|edit| matches!(edit, Edit::Length(..)));
+    edits
+}
+
+fn wrong_lengths(call: &Call) -> Vec<Vec<Edit>> {
+    let lists = [
+        ('i', call.ids.len(), 1),
+        ('s', call.ranges.len(), 2),
+        ('f', call.particle_floats.len(), PARTICLE_FLOATS),
+        ('w', call.particle_words.len(), PARTICLE_WORDS),
+        ('m', call.node_floats.len(), REGION_FLOATS),
+        ('k', call.node_words.len(), REGION_NODES),
+    ];
+    let lengths = |length: usize, each: usize| [length + 1, length - 1, length + each, length - each, 0, 2 * length];
+    lists
+        .iter()
+        .flat_map(|(letter, length, each)| lengths(*length, *each).map(|other| vec![Edit::Length(*letter, other)]))
+        .collect()
+}
+
+/// Counts that are off by one, and that are off by so much that their products with a record's size are right again in 64 bits
+/// or in 32.
+fn wrong_counts(call: &Call) -> Vec<Vec<Edit>> {
+    let others = |count: u64| {
+        let wrapped = [32, 57, 58, 59, 60, 61, 62, 63].map(|bit| count + (1 << bit));
+        [&[0, count - 1, count + 1, u64::MAX][..], &wrapped[..]].concat()
+    };
+    let counts = |letter: char, count: u64| others(count).into_iter().map(move |other| vec![Edit::Count(letter, other)]);
+    let none = |bit: u32| vec![Edit::Count('p', 1 << bit), Edit::Length('f', 0), Edit::Length('w', 0)];
+    counts('r', call.regions).chain(counts('p', call.particles)).chain([62, 63].map(none)).collect()
+}
+
+/// What no setting may be; 0 and below are allowed to gravity, and what is just inside a range is no fault.
+fn wrong_settings() -> Vec<Vec<Edit>> {
+    const NOT_FINITE: [u32; 5] = [0x7F80_0000, 0xFF80_0000, 0x7FC0_0000, 0x7F80_0001, 0xFFFF_FFFF];
+    let zeros_and_below = patterns(&[0.0, -0.0, -1e-45, -1.0, f32::MIN]);
+    let widths = [0x3580_0000, 0x4980_0000].iter().flat_map(|end| [end - 1, *end, end + 1]);
+    let widths = widths.chain(patterns(&[1e-45, f32::MIN_POSITIVE, f32::MAX]));
+    let mut found: Vec<(char, u32)> = "htxy".chars().flat_map(|letter| NOT_FINITE.map(|bits| (letter, bits))).collect();
+    found.extend(zeros_and_below.iter().flat_map(|bits| [('h', *bits), ('t', *bits)]));
+    found.extend(widths.map(|bits| ('h', bits)));
+    found.into_iter().map(|(letter, bits)| vec![Edit::Setting(letter, bits)]).collect()
+}
+
+fn wrong_words(call: &Call) -> Vec<Vec<Edit>> {
+    let values = [2, 3, 7, 1 << 31, u32::MAX, 256].into_iter().cycle();
+    (0..call.particle_words.len()).zip(values).map(|(place, value)| vec![Edit::Entry('w', place, u64::from(value))]).collect()
+}
+
+/// Every float of the first, the last and a middle particle.
+fn wrong_floats(call: &Call) -> Vec<Vec<Edit>> {
+    let values = [0x7F80_0000, 0xFF80_0000, 0x7FC0_0000, 0x7F80_0001, 0xFFFF_FFFF].into_iter().cycle();
+    let last = call.particles as usize - 1;
+    let places = [0, last / 2, last]
+        .into_iter()
+        .flat_map(|particle| (0..PARTICLE_FLOATS).map(move |place| particle * PARTICLE_FLOATS + place));
+    places.zip(values).map(|(place, value)| vec![Edit::Entry('f', place, value)]).collect()
+}
+
+/// Low bits, ids again and out of order, and regions that are listed in another's stead.
+fn wrong_ids(call: &Call) -> Vec<Vec<Edit>> {
+    let mut found = vec![];
+    for (place, id) in call.ids.iter().enumerate() {
+        let before = call.ids[place.saturating_sub(1)];
+        let others = [id | 1 << (place % 12), before, before & !0xFFF ^ 0x1000, 0, !0xFFF, u64::MAX];
+        found.extend(others.map(|other| vec![Edit::Entry('i', place, other)]));
+        found.extend([1, 2, 3, 4].map(|more| vec![Edit::Entry('i', place, id + (more << 12))]));
+    }
+    found
+}
+
+fn wrong_ranges(call: &Call) -> Vec<Vec<Edit>> {
+    let others = |entry: u64| [entry + 1, entry.wrapping_sub(1), u64::MAX, 1 << 63, 1 << 32];
+    let entries = call.ranges.iter().enumerate();
+    let mut found: Vec<Vec<Edit>> =
+        entries.flat_map(|(place, entry)| others(*entry).map(|other| vec![Edit::Entry('s', place, other)])).collect();
+    // A count that wraps where the next start is right again.
+    found.extend((0..call.ids.len() - 1).map(|region| {
+        let (start, count) = (2 * region, 2 * region + 1);
+        vec![Edit::Entry('s', count, u64::MAX), Edit::Entry('s', start + 2, call.ranges[start].wrapping_sub(1))]
+    }));
+    found.push(vec![Edit::Count('p', call.particles + 1), more('f', call, 1), more('w', call, 1)]);
+    found.push(vec![Edit::Count('p', call.particles - 1), more('f', call, -1), more('w', call, -1)]);
+    found
+}
+
+/// The particles' floats or words for so many particles more or less.
+fn more(letter: char, call: &Call, more: i64) -> Edit {
+    let each = if letter == 'f' { PARTICLE_FLOATS } else { PARTICLE_WORDS };
+    Edit::Length(letter, (call.particles as i64 + more) as usize * each)
+}
+
+/// Places off the grid, in other regions, and at each cell of a region, where stencils reach regions that are not listed.
+fn wrong_positions(call: &Call) -> Vec<Vec<Edit>> {
+    const OFF: [f32; 12] = [0.0, -0.0, -1.0, 0.25, 0.49999997, 65535.5, 65536.0, 4294967296.0, 1e20, -1e20, 1e-45, f32::MAX];
+    let mut found = vec![];
+    for particle in 0..call.particles as usize {
+        let position = call.position(particle);
+        let at = |axis: usize, x: f32| Edit::Entry('f', particle * PARTICLE_FLOATS + axis, u64::from(x.to_bits()));
+        let off = OFF[particle % OFF.len()..].iter().chain(&OFF[..particle % OFF.len()]).take(5);
+        found
+            .extend(off.zip([0, 1].into_iter().cycle()).map(|(off, axis)| vec![at(axis, (off * call.cell_width).min(f32::MAX))]));
+        for cells in [1.0, 2.0, 3.0, 4.0, -4.0] {
+            let moved = position.map(|x| x + cells * call.cell_width);
+            found.extend([vec![at(0, moved[0])], vec![at(1, moved[1])], vec![at(0, moved[0]), at(1, moved[1])]]);
+        }
+    }
+    found
+}
+
+#[cfg(test)]
+mod tests {
+    use super::*;
+    use crate::vectors::format::rows;
+    use std::collections::{BTreeMap, BTreeSet};
+
+    /// The indices that are answered to each call with each number, and how often.
+    fn answered(sheet: &Sheet) -> BTreeMap<(String, u32), (usize, BTreeSet<u64>)> {
+        let mut found: BTreeMap<(String, u32), (usize, BTreeSet<u64>)> = BTreeMap::new();
+        for (question, answer) in rows(sheet).filter(|(question, _)| question[0] != "b") {
+            let entry = found.entry((question[0].to_string(), answer[0].parse().unwrap())).or_default();
+            entry.0 += 1;
+            entry.1.insert(answer[1].parse().unwrap());
+        }
+        found
+    }
+
+    #[test]
+    fn every_call_answers_every_number_often() {
+        let found = answered(&make());
+        for operation in ["f", "o", "q"] {
+            let numbers = found.keys().filter(|(asked, _)| asked == operation).map(|(_, number)| *number);
+            assert!(numbers.eq(0..=10), "{}", operation);
+        }
+        for ((operation, number), (count, indices)) in &found {
+            assert!(*count >= 5, "{} {}", operation, number);
+            assert!(*number < 4 || indices.len() >= 5, "{} {} {:?}", operation, number, indices);
+            assert!(![4, 5, 8, 9].contains(number) || indices.contains(&65535), "{} {}", operation, number);
+        }
+        assert!(found[&("f".to_string(), 0)].0 >= 240);
+    }
+
+    #[test]
+    fn every_call_is_read_again_and_every_node_is_answered() {
+        let sheet = make();
+        let mut nodes = vec![];
+        for (question, answer) in rows(&sheet) {
+            if question[0] == "b" {
+                let call = Call::from_fields(&question[2..]);
+                assert!(call.fields().iter().eq(&question[2..]));
+                assert_eq!(answer, [call.node_words.len().to_string()]);
+                nodes.push(call.node_words.len());
+            } else {
+                let count: usize = nodes[question[1].parse::<usize>().unwrap()];
+                assert_eq!(answer.len(), if answer[0] == "0" { 2 + count } else { 2 }, "{:?}", &question[..2]);
+            }
+        }
+    }
+
+    /// Nodes no particle reaches kept every bit, or they would be written out.
+    #[test]
+    fn only_nodes_that_are_hit_are_written() {
+        let sheet = make();
+        let done = rows(&sheet).filter(|(question, answer)| question[0] == "f" && question.len() == 2 && answer[0] == "0");
+        let calls: Vec<Call> = rows(&sheet)
+            .filter(|(question, _)| question[0] == "b")
+            .map(|(question, _)| Call::from_fields(&question[2..]))
+            .collect();
+        for (question, answer) in done {
+            let hits = calls[question[1].parse::<usize>().unwrap()].hits(None);
+            assert!(answer[2..].iter().zip(&hits).all(|(node, hit)| *hit == (*node != "=")), "{:?}", question);
+        }
+    }
+
+    #[test]
+    fn document_01s_listing() {
+        let node = |mass: &str| [mass, mass, "00000000", "3F800000", "00000000", "00000000", "00000000", "00000000"].concat();
+        let (corner, side, middle, none) = (node("3F800000"), node("40C00000"), node("42100000"), "=".to_string());
+        let row = |one: &String, two: &String| [one.clone(), two.clone(), one.clone(), none.clone()];
+        let rows = [row(&corner, &side), row(&side, &middle), row(&corner, &side)].concat();
+        assert_eq!(nodes(&Which::All, &listing())[..12], rows);
+        assert!(nodes(&Which::All, &listing())[12..].iter().all(|node| *node == none));
+    }
+
+    /// At x = 0 the Rust's first cell is the last one of the axis; it scatters there, and to the cells that come next, at 0 and 1.
+    #[test]
+    fn the_rust_goes_on_where_the_table_refuses() {
+        let call = listing().edited(&[Edit::Entry('f', 0, 0)]);
+        assert_eq!(reading::scatter(&Which::All, &call).map(|refusal| (refusal.number, refusal.index)), Some((8, 0)));
+        let mut scene = Scene::new(&call, MmapMut::sparse());
+        scene.scatter();
+        let (floats, _) = scene.nodes();
+        let masses = [0, 1, 2].map(|cell| f32::from_bits(floats[cell * samples::NODE_FLOATS]));
+        assert_eq!(masses, [6.0, 1.0, 0.0]);
+    }
+
+    /// Region by region, colour by colour, the Rust leaves what its scatter of all leaves: so a call in such an order has to.
+    #[test]
+    fn an_order_by_colours_leaves_the_same_nodes() {
+        let mut rng = Rng::new(SEED);
+        for _ in 0..300 {
+            let call = Style::any(&mut rng).sample(&mut rng);
+            let mut one_by_one = call.clone();
+            for place in samples::random::order(&call, &mut rng) {
+                let mut scene = Scene::new(&one_by_one, MmapMut::sparse());
+                scene.only(place as usize);
+                scene.scatter();
+                (one_by_one.node_floats, one_by_one.node_words) = scene.nodes();
+            }
+            let answered = call.answered((&one_by_one.node_floats, &one_by_one.node_words), &call.hits(None));
+            assert_eq!(answered, nodes(&Which::All, &call));
+        }
+    }
+
+    #[test]
+    fn samples_are_accepted_and_hit_what_the_rust_hits() {
+        let mut rng = Rng::new(SEED);
+        for _ in 0..1000 {
+            let call = Style::any(&mut rng).sample(&mut rng);
+            assert_eq!(reading::scatter(&Which::All, &call), None);
+            let mut scene = Scene::new(&call, MmapMut::sparse());
+            assert_eq!(scene.hits(), call.hits(None));
+            let place = rng.below(call.regions) as usize;
+            scene.only(place);
+            assert_eq!(scene.hits(), call.hits(Some(place)));
+        }
+    }
+}
