@@ -1,9 +1,8 @@
 -- The check of scatter in the steps in which the code makes it, and what it has shown where it refuses nothing. Assumes nothing.
 use mathlib.Core.Path.{_≡_, refl, sym, ap, ap₂, _∙_}
 use mathlib.Core.Bool.{Bool, true, false, _&&_, not, and-true}
-use mathlib.Core.List.{List, [], _∷_}
+use mathlib.Core.List.{List}
 use Prim.Native.Nat.{ℕ, _+_, _*_, _≤_, _<_}
-use native.Mathlib.Nat.{mul-assoc}
 use native.Mathlib.Omega.{arith}
 use lib.Dec.{eqb, ltb}
 use lib.Ieee.{Float}
@@ -17,9 +16,9 @@ use Rattle.grid.specs.Table.{all, matches, nodeLengths, limits, finite, goodWid
 use Rattle.grid.specs.declared.Answer.{Answer}
 use Rattle.grid.specs.declared.Answer.the-variants.{Done, Refused}
 use Rattle.grid.specs.declared.Rule.the-variants.{Length, Setting, Code}
-use Rattle.grid.proofs.Answers.{unless-end, refuse-passed, not-false, not-true}
+use Rattle.grid.proofs.Answers.{unless-end, refuse-passed, not-false}
 use Rattle.grid.proofs.Lengths.{and-split, nodes-held}
-use Rattle.particles.specs.Particles.{particleFloats, particleWords, particleForm}
+use Rattle.particles.specs.Particles.{particleFloats, particleWords}
 use Rattle.particles.specs.Table.{particleLengths, checked}
 use Rattle.particles.proofs.Accepting.{accepted}
 use Rattle.scatter.specs.Scatter.{scatterCheck, placeCheck, Ready}

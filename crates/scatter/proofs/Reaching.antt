@@ -1,5 +1,5 @@
 -- Where hits fall: on nodes of the list, and in the regions that the particle's region reaches; so two regions of one colour never hit a common node. Assumes nothing.
-use mathlib.Core.Path.{_≡_, refl, sym, subst, _∙_}
+use mathlib.Core.Path.{_≡_, refl, subst}
 use mathlib.Core.Bool.{true}
 use mathlib.Core.List.{List, [], _∷_, List·Memᴰ·head, List·Memᴰ·tail}
 use mathlib.Core.Logic.{⊎-elim}
@@ -11,7 +11,7 @@ use Rattle.packing.specs.Ids.{dim2, region, number, colour, stencilOf}
 use Rattle.packing.specs.Neighbours.{_∈_, IsCell, IsRegion, reach}
 use Rattle.packing.proofs.Laws.{laws2, packed2, numbers2, stencils2}
 use Rattle.laws.specs.Store.{Store}
-use Rattle.laws.specs.Hits.{Hit, In, Within, gather}
+use Rattle.laws.specs.Hits.{Hit, In, Within}
 use Rattle.laws.proofs.Hits.{in-gather}
 use Rattle.laws.proofs.Rows.{lt-or-ge}
 use Rattle.cells.specs.Cells.{cellAssociatedToPoint, regionAssociatedToPoint}
@@ -21,7 +21,7 @@ use Rattle.cells.specs.declared.Found.{Found}
 use Rattle.cells.specs.declared.Found.the-variants.{At, Absent}
 use Rattle.cells.proofs.Lookups as Lookups
 use Rattle.grid.specs.Nodes.{regionCells}
-use Rattle.grid.specs.Table.{Regions, startOf, countOf}
+use Rattle.grid.specs.Table.{startOf, countOf}
 use Rattle.grid.specs.declared.grid_node.GridNode.{GridNode}
 use Rattle.particles.specs.Particles.{particleAt, positionOf}
 use Rattle.particles.specs.Table.{listed}

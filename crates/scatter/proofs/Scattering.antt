@@ -1,5 +1,5 @@
 -- What full scatter and one region's leave: the laws of hits, of theirs. Assumes nothing.
-use mathlib.Core.Path.{_≡_, refl, sym, _∙_}
+use mathlib.Core.Path.{sym, _∙_}
 use mathlib.Core.Bool.{Bool, true, false, cond}
 use mathlib.Core.List.{List, []}
 use Prim.Native.Nat.{ℕ, _*_, _<_}
@@ -7,9 +7,9 @@ use lib.Ieee.{Float}
 use lib.ListN.{length, getD}
 use Rattle.packing.specs.Ids.{dim2, inColour}
 use Rattle.laws.specs.Store.{Store}
-use Rattle.laws.specs.Hits.{Hit, Within, only, run}
+use Rattle.laws.specs.Hits.{Hit, Within, run}
 use Rattle.laws.proofs.Hits as Hits
-use Rattle.grid.specs.Nodes.{nodeForm, nodeAt, nodes, regionCells, reads, stores}
+use Rattle.grid.specs.Nodes.{nodes, regionCells, reads, stores}
 use Rattle.grid.specs.declared.grid_node.GridNode.{GridNode}
 use Rattle.scatter.specs.Scatter.{colours, colouredHits, colourHits, scatterHits, regionHits, Ready, Laws, Acceptance}
 use Rattle.scatter.proofs.Reaching.{within-list}

@@ -17,7 +17,7 @@ use Rattle.cells.specs.Stencil.{stencilCells, shiftAt}
 use Rattle.cells.specs.declared.Found.{Found}
 use Rattle.cells.specs.declared.Found.the-variants.{At, Absent}
 use Rattle.grid.specs.Answers.{first}
-use Rattle.grid.specs.Nodes.{nodeForm, nodeAt, nodes, regionCells, nodeFloats, nodeWords}
+use Rattle.grid.specs.Nodes.{nodeForm, nodeAt, nodes, regionCells}
 use Rattle.grid.specs.Table.{all, finite, goodWidth, goodStep, lengths, nodeLengths, limits, settings, codes, rangeWords, startOf, countOf}
 use Rattle.grid.specs.declared.Answer.{Answer}
 use Rattle.grid.specs.declared.grid_node.GridNode.{GridNode}

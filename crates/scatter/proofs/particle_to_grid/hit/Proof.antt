@@ -1,7 +1,7 @@
 -- `scatter::particle_to_grid::hit` meets its contract: the else arm is never taken, and the node at the place found is read, changed and written back.
 -- Assumes nothing.
 use borrow.Author.Needs.{needs}
-use mathlib.Core.Path.{_≡_, sym, ap, _∙_}
+use mathlib.Core.Path.{sym, ap, _∙_}
 use native.Mathlib.Omega.{arith}
 use denote.Ref.{now}
 use Rattle.cells.specs.Lookup.{lookup}

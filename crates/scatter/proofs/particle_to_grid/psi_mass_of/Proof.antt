@@ -1,6 +1,5 @@
 -- `scatter::particle_to_grid::psi_mass_of` meets its contract: in each branch.
 -- Assumes nothing.
-use borrow.Author.Needs.{needs}
 use mathlib.Core.Bool.{Bool, true, false, cond, _&&_, not}
 use mathlib.Core.Path.{_≡_, refl, sym, ap, _∙_}
 use lib.Dec.{eqb}
