@@ -8,7 +8,7 @@ ghost use Rattle.laws.specs.Refusals.{settle};
 ghost use Rattle.grid.specs.Answers.{refused};
 ghost use Rattle.grid.specs.declared.Answer.the-variants.{Done};
 ghost use Rattle.scatter.specs.Hit.{axes};
-ghost use Rattle.scatter.specs.Scatter.{scatterCheck, scattered};
+ghost use Rattle.scatter.specs.Scatter.{scattered};
 ghost use Rattle.solver.specs.Order.{colourAt, repeated, outOfTurn, turns, orderCheck, inOrder};
 use grid::Answer;
 use grid::Rule;

@@ -2,11 +2,11 @@
 -- Assumes nothing.
 use mathlib.Core.Path.{_≡_, refl, _∙_}
 use mathlib.Core.List.{List}
-use Prim.Native.Nat.{ℕ, _+_, _*_, _-_, _≤_, _<_}
+use Prim.Native.Nat.{ℕ, _+_, _*_, _-_, _≤_}
 use native.Mathlib.Omega.{arith}
 use borrow.Author.Needs.{needs}
 use lib.ListN.{length}
-use Rattle.laws.specs.Store.{Store, store}
+use Rattle.laws.specs.Store.{store}
 use Rattle.laws.specs.Hits.{Hit, run, gather}
 use Rattle.laws.proofs.Hits.{run-none, run-left}
 use Rattle.grid.specs.Nodes.{nodes, regionCells}
