@@ -22,6 +22,12 @@ pub and-split : (a b : Bool) → (a && b) ≡ true → (a ≡ true) × (b ≡ tr
 and-split true b e = (refl, e)
 and-split false b e = absurd (true≢false (sym e))
 
+-- two lengths at the head of a list are looked at by themselves
+pub regroup : (a b c : Bool) → (a && (b && c)) ≡ ((a && (b && true)) && c)
+regroup true true c = refl
+regroup true false c = refl
+regroup false b c = refl
+
 -- a product leaves no remainder
 pub whole : (count each : ℕ) → count * each % each ≡ 0
 whole count each = ap (λ (x : ℕ). x % each) (sym (add-zero (count * each))) ∙ mul-add-mod-self-right count each 0 ∙ zero-mod each

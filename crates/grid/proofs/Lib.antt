@@ -1,4 +1,5 @@
 pub mod Answers
+pub mod Steps
 pub mod Lengths
 pub mod Settings
 pub mod Emptying

@@ -4,16 +4,16 @@
 use mathlib.Core.Path.{_≡_}
 use mathlib.Core.Bool.{Bool, true, false, _&&_, not}
 use mathlib.Core.List.{List, [], _∷_}
-use Prim.Native.Nat.{ℕ, zero, suc, _+_, _*_, _<_, _≤_}
+use Prim.Native.Nat.{ℕ, zero, suc, _+_, _*_, _/_, _<_, _≤_}
 use lib.ListN.{length, getD}
 use lib.Dec.{eqb, leb, ltb}
 use lib.Ieee.{Float, nan, inf, fin, binary32, le, lt, ofBits}
 use Rattle.packing.specs.Ids.{region}
 use Rattle.numeric.specs.Bits.{none}
-use Rattle.grid.specs.Answers.{refuse, unless, firstOf}
+use Rattle.grid.specs.Answers.{refuse, unless, first, firstOf}
 use Rattle.grid.specs.Nodes.{nodeFloats, nodeWords, regionCells}
 use Rattle.grid.specs.declared.Answer.{Answer}
-use Rattle.grid.specs.declared.Rule.the-variants.{Length, Limit, Setting, Code, RegionIds, Cover}
+use Rattle.grid.specs.declared.Rule.the-variants.{Length, Limit, Setting, Code, NotFinite, RegionIds, Cover}
 
 -- every entry of a list has it
 abbrev pub all : {A : Type 0} → (A → Bool) → List A → Bool
@@ -77,6 +77,23 @@ settings good = refuse (not (all (λ (b : Bool). b) good)) Setting 0
 
 abbrev pub codes : List Bool → Answer
 codes good = refuse (not (all (λ (b : Bool). b) good)) Code 0
+
+-- 1 to 3 and a call's own in 4, in this order: whether all lengths match, what the limits say, whether all settings are good, what is found of its own
+unfoldable pub called : Bool → Answer → Bool → Answer → Answer
+called lengths limited settings own = first (refuse (not lengths) Length 0 ∷ limited ∷ refuse (not settings) Setting 0 ∷ own ∷ [])
+
+-- of words, one a record: the first that is no flag
+abbrev pub isFlag : ℕ → Bool
+isFlag w = leb w 1
+
+unfoldable pub flags : List ℕ → Answer
+flags ws = firstOf (λ k. refuse (not (isFlag (getD ws k 0))) Code k) 0 (length ws)
+
+-- ---- 5: a non-finite number in a record
+
+-- of floats, so many a record: the record of the first that is not finite
+unfoldable pub numbers : ℕ → List Float → Answer
+numbers each xs = firstOf (λ k. refuse (not (finite (getD xs k nan))) NotFinite (k / each)) 0 (length xs)
 
 -- ---- 6: region ids not strictly ascending, or low 12 bits set
 

@@ -2,12 +2,12 @@
 // shown.
 ghost use mathlib.Core.Path.{_≡_};
 ghost use mathlib.Core.List.{[], _∷_};
-ghost use Prim.Native.Nat.{_+_, _*_, _≤_};
+ghost use Prim.Native.Nat.{_+_, _*_, _<_, _≤_};
 ghost use lib.Dec.{eqb};
 ghost use lib.ListN.{length};
 ghost use Rattle.laws.specs.Store.{store};
 ghost use Rattle.grid.specs.Nodes.{nodeFloats, nodeWords, nodeAt, putNode};
-ghost use Rattle.grid.specs.Table.{all, matches, nodeLengths, limits, finite, goodWidth, goodStep, badRegion, regionIds, rangeWords, cover};
+ghost use Rattle.grid.specs.Table.{all, matches, nodeLengths, limits, finite, goodWidth, goodStep, called, flags, numbers, badRegion, regionIds, rangeWords, cover};
 use crate::Answer;
 use crate::Rule;
 use crate::grid_node::CELLS_OF_REGION;
@@ -119,6 +119,51 @@ pub fn is_finite_vector(v: Vector) -> bool
     ensures { λ r. ⌜ r ≡ all finite (v .x ∷ v .y ∷ []) ⌝ }
 {
     is_finite(v.x) & is_finite(v.y)
+}
+
+// Numbers 1 to 3 and what is found of a call's own settings in 4, in this order.
+pub fn check_call(lengths: bool, limited: Answer, settings: bool, own: Answer) -> Answer
+    ensures { λ a. ⌜ a ≡ called lengths limited settings own ⌝ }
+{
+    if !lengths {
+        return Answer::Refused(Rule::Length, 0);
+    }
+    let Answer::Done = limited else {
+        return limited;
+    };
+    if !settings {
+        return Answer::Refused(Rule::Setting, 0);
+    }
+    own
+}
+
+// The first of words, one a record, that is no flag.
+pub fn check_flags(words: &[u32]) -> Answer
+    ensures { λ a. ⌜ a ≡ flags (now (words .entry)) ⌝ }
+{
+    let mut k = 0;
+    while k < words.len() {
+        if 1 < words[k] {
+            return Answer::Refused(Rule::Code, k);
+        }
+        k += 1;
+    }
+    Answer::Done
+}
+
+// The first record, of `each` floats, with one that is not finite.
+pub fn check_numbers(floats: &[f32], each: usize) -> Answer
+    requires { ⌜ 0 < each ⌝ }
+    ensures { λ a. ⌜ a ≡ numbers each (now (floats .entry)) ⌝ }
+{
+    let mut k = 0;
+    while k < floats.len() {
+        if !is_finite(floats[k]) {
+            return Answer::Refused(Rule::NotFinite, k / each);
+        }
+        k += 1;
+    }
+    Answer::Done
 }
 
 // The first region whose id has low bits set or does not ascend.

@@ -1,15 +1,20 @@
 -- What a list of hits leaves at each place, and which orders do not matter. Assumes nothing.
 use mathlib.Core.Path.{_≡_, refl, sym, ap, _∙_}
 use mathlib.Core.Bool.{Bool, true, false}
-use mathlib.Core.Logic.{_⊎_, inl, inr}
+use mathlib.Core.Logic.{_⊎_, inl, inr, ⊎-elim}
 use mathlib.Core.List.{List, [], _∷_, _++_, append-nil}
 use Prim.Native.Nat.{ℕ, zero, suc, _+_, _-_, _≤_, _<_}
+use native.Mathlib.Nat.{eq-or-lt-of-le}
 use native.Mathlib.Numerals.{add-one}
 use native.Mathlib.Omega.{arith}
 use lib.Dec.{eqb}
 use borrow.Author.Tests.{eqb-true, eqb-false}
 use Rattle.laws.specs.Store.{Cells}
 use Rattle.laws.specs.Hits.{Hit, In, Within, keep, only, along, hit, run, gather, Laws}
+
+-- a place other than k
+abbrev pub Elsewhere : ℕ → ℕ → Type 0
+Elsewhere k j = j ≡ k → ⊥
 
 module _ {A : Type 0} where
   pub in-append : (P : ℕ → Type 0) (xs ys : List (Hit A)) → In P xs → In P ys → In P (xs ++ ys)
@@ -40,6 +45,21 @@ module _ {A : Type 0} where
       go : (b : Bool) → eqb (h .at) k ≡ b → (only k hs ≡ []) ⊎ P k → (keep b (h .change) (only k hs) ≡ []) ⊎ P k
       go true e r = inr (let q : h .at ≡ k = eqb-true (h .at) k e in rw q at (p .0))
       go false e r = r
+
+  -- where every hit is elsewhere, none is at k
+  pub only-none : (k : ℕ) (hs : List (Hit A)) → In (Elsewhere k) hs → only k hs ≡ []
+  only-none k hs p = ⊎-elim (λ (e : only k hs ≡ []). e) (λ (n : Elsewhere k k). absurd (n refl)) (only-cases (Elsewhere k) hs k p)
+
+  -- where all but one of the lists are elsewhere, that one alone has hits at k
+  pub only-one : (k : ℕ) (f : ℕ → List (Hit A)) (n r : ℕ) → r < n → ((i : ℕ) → i < n → (i ≡ r → ⊥) → In (Elsewhere k) (f i)) → only k (gather f n) ≡ only k (f r)
+  unfolding gather
+  only-one k f zero r l h = absurd (omega arith)
+  only-one k f (suc n) r l h =
+      only-append k (gather f n) (f n)
+      ∙ ⊎-elim
+      (λ (e : r ≡ n). rw (only-none k (gather f n) (in-gather (Elsewhere k) f n (λ i u. h i (omega arith) (omega arith))), e))
+      (λ (u : r < n). rw (only-none k (f n) (h n (omega arith) (omega arith)), append-nil (only k (gather f n))) (only-one k f n r u (λ i v. h i (omega arith))))
+      (eq-or-lt-of-le (let z : r ≤ n = omega arith in z))
 
 module _ {S A : Type 0} (C : Cells S A) where
   pub run-append : (xs ys : List (Hit A)) (s : S) → run C (xs ++ ys) s ≡ run C ys (run C xs s)

@@ -76,3 +76,8 @@ numbers2 i = omega arith
 pub stencils2 : (i : ℕ) → length (stencilOf dim2 i) ≡ 9
 unfolding stencilOf packedShifts dim2
 stencils2 i = refl
+
+-- for there are 9 shifts
+pub shifts2-long : length (packedShifts dim2) ≡ 9
+unfolding packedShifts dim2
+shifts2-long = refl

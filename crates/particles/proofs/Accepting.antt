@@ -14,7 +14,7 @@ use Rattle.laws.proofs.Refusals as Refused
 use Rattle.packing.specs.Ids.{dim2, stencilOf}
 use Rattle.cells.specs.Cells.{cellAssociatedToPoint, regionAssociatedToPoint}
 use Rattle.grid.specs.Answers.{refused, refuse, first}
-use Rattle.grid.specs.Table.{all, finite, regionIds, startOf, countOf, cover}
+use Rattle.grid.specs.Table.{all, finite, isFlag, regionIds, startOf, countOf, cover}
 use Rattle.grid.specs.declared.Answer.{Answer}
 use Rattle.grid.specs.declared.Answer.the-variants.{Done}
 use Rattle.grid.specs.declared.Rule.{Rule}
@@ -22,7 +22,7 @@ use Rattle.grid.specs.declared.Rule.the-variants.{Code, NotFinite, OffGrid, Out
 use Rattle.grid.proofs.Answers.{refuse-passed, not-false}
 use Rattle.grid.proofs.Passing as Passing
 use Rattle.particles.specs.Particles.{particleForm, particleAt, positionOf}
-use Rattle.particles.specs.Table.{isFlag, badFlag, notFinite, onAxis, offGrid, outOfRegion, listed, unlisted, judged, firstParticle, outOfRegions, placed, checked, Accepted}
+use Rattle.particles.specs.Table.{badFlag, notFinite, onAxis, offGrid, outOfRegion, listed, unlisted, judged, firstParticle, outOfRegions, placed, checked, Accepted}
 
 -- the head and the tail of a list of answers of which none refuses
 split : (a : Answer) (later : List Answer) → refused (first (a ∷ later)) ≡ false → (refused a ≡ false) × (refused (first later) ≡ false)

@@ -6,7 +6,7 @@ use mathlib.Core.Bool.{Bool, true, false, _&&_, not}
 use mathlib.Core.List.{List, [], _∷_}
 use Prim.Native.Nat.{ℕ, _+_, _*_, _≤_, _<_}
 use lib.ListN.{length, getD}
-use lib.Dec.{eqb, leb}
+use lib.Dec.{eqb}
 use lib.Ieee.{Float, binary32, le, ofBits}
 use Rattle.laws.specs.Store.{Store}
 use Rattle.packing.specs.Ids.{dim2, region, stencilOf}
@@ -16,7 +16,7 @@ use Rattle.cells.specs.Lookup.{lookup}
 use Rattle.cells.specs.declared.Found.{Found}
 use Rattle.cells.specs.declared.Found.the-variants.{At, Absent}
 use Rattle.grid.specs.Answers.{refuse, first, firstOf}
-use Rattle.grid.specs.Table.{all, finite, regionIds, Regions, startOf, countOf, cover, Covers}
+use Rattle.grid.specs.Table.{all, finite, isFlag, regionIds, Regions, startOf, countOf, cover, Covers}
 use Rattle.grid.specs.declared.Answer.{Answer}
 use Rattle.grid.specs.declared.Rule.{Rule}
 use Rattle.grid.specs.declared.Rule.the-variants.{Length, Limit, Setting, Code, NotFinite, RegionIds, Cover, OffGrid, OutOfRegion, Unlisted}
@@ -28,9 +28,6 @@ abbrev pub particleLengths : ℕ → ℕ → ℕ → List (ℕ × ℕ)
 particleLengths particles pf pw = (pf, particles * particleFloats) ∷ (pw, particles * particleWords) ∷ []
 
 -- ---- 4: a flag out of range
-
-abbrev pub isFlag : ℕ → Bool
-isFlag w = leb w 1
 
 unfoldable pub badFlag : Particle → Bool
 badFlag q = not (all isFlag (particleForm .wordsOf q))

@@ -1,5 +1,5 @@
 -- The check of scatter in the steps in which the code makes it, and what it has shown where it refuses nothing. Assumes nothing.
-use mathlib.Core.Path.{_≡_, refl, sym, ap, ap₂, _∙_}
+use mathlib.Core.Path.{_≡_, sym, ap, ap₂, _∙_}
 use mathlib.Core.Bool.{Bool, true, false, _&&_, not, and-true}
 use mathlib.Core.List.{List}
 use Prim.Native.Nat.{ℕ, _+_, _*_, _≤_, _<_}
@@ -12,62 +12,37 @@ use Rattle.laws.specs.Store.{Store, store, Holds}
 use Rattle.laws.proofs.Refusals.{unless-passed}
 use Rattle.grid.specs.Answers.{refused, refuse, unless}
 use Rattle.grid.specs.Nodes.{nodeForm, regionCells}
-use Rattle.grid.specs.Table.{all, matches, nodeLengths, limits, finite, goodWidth, goodStep, rangeWords, startOf, countOf}
+use Rattle.grid.specs.Table.{all, matches, nodeLengths, limits, finite, goodWidth, goodStep, called, rangeWords, startOf, countOf}
 use Rattle.grid.specs.declared.Answer.{Answer}
-use Rattle.grid.specs.declared.Answer.the-variants.{Done, Refused}
-use Rattle.grid.specs.declared.Rule.the-variants.{Length, Setting, Code}
-use Rattle.grid.proofs.Answers.{unless-end, refuse-passed, not-false}
-use Rattle.grid.proofs.Lengths.{and-split, nodes-held}
+use Rattle.grid.specs.declared.Answer.the-variants.{Done}
+use Rattle.grid.specs.declared.Rule.the-variants.{Length, Code}
+use Rattle.grid.proofs.Answers.{refuse-passed, not-false}
+use Rattle.grid.proofs.Lengths.{and-split, regroup, nodes-held}
+use Rattle.grid.proofs.Steps.{called-then, passed}
 use Rattle.particles.specs.Particles.{particleFloats, particleWords}
 use Rattle.particles.specs.Table.{particleLengths, checked}
 use Rattle.particles.proofs.Accepting.{accepted}
 use Rattle.scatter.specs.Scatter.{scatterCheck, placeCheck, Ready}
-
--- what is found, step by step: whether the lengths match, what the limits say, whether the settings are good, and what is found of the call's own and of the rest
-unfoldable pub stepped : Bool → Answer → Bool → Answer → Answer → Answer
-stepped lengths limited settings own rest =
-    unless (refuse (not lengths) Length 0) (unless limited (unless (refuse (not settings) Setting 0) (unless own rest)))
 
 -- whether all lengths match, as the code asks
 abbrev pub fitting : ℕ → List ℕ → List ℕ → ℕ → Store → ℕ → ℕ → Bool
 fitting regions ids ranges count s nf nw =
     eqb (length ids) regions && (eqb (length ranges) (regions * rangeWords) && (matches (particleLengths count (length (s .floats)) (length (s .words))) && matches (nodeLengths regions nf nw)))
 
-regroup : (a b c : Bool) → (a && (b && c)) ≡ ((a && (b && true)) && c)
-regroup true true c = refl
-regroup true false c = refl
-regroup false b c = refl
+-- whether all settings are good
+abbrev pub set : Float → Float → List Float → Bool
+set h dt gravity = goodWidth h && (goodStep dt && all finite gravity)
 
 pub check-is : (own : Answer) (h dt : Float) (gravity : List Float) (regions : ℕ) (ids ranges : List ℕ) (count : ℕ) (s : Store) (nf nw : ℕ)
     → scatterCheck own h dt gravity regions ids ranges count s nf nw
-    ≡ stepped (fitting regions ids ranges count s nf nw) (limits regions count 0) (goodWidth h && (goodStep dt && all finite gravity)) own (checked h ids ranges s count)
-unfolding scatterCheck stepped
+    ≡ unless (called (fitting regions ids ranges count s nf nw) (limits regions count 0) (set h dt gravity) own) (checked h ids ranges s count)
+unfolding scatterCheck
 check-is own h dt gravity regions ids ranges count s nf nw =
     let l = regroup (eqb (length (s .floats)) (count * particleFloats)) (eqb (length (s .words)) (count * particleWords)) (matches (nodeLengths regions nf nw)) in
+    let x = checked h ids ranges s count in
     ap₂ (λ (x : Bool) (y : Answer). unless (refuse (not (eqb (length ids) regions && (eqb (length ranges) (regions * rangeWords) && x))) Length 0) (unless (limits regions count 0) y)) l
-    (rw (and-true (all finite gravity), unless-end (checked h ids ranges s count)))
-
--- ---- where it stops
-
-pub stops-1 : (l : Bool) (a : Answer) (s : Bool) (p r : Answer) → not l ≡ true → Refused Length 0 ≡ stepped l a s p r
-unfolding stepped
-stops-1 l a s p r e = rw e
-
-pub stops-2 : (l : Bool) (a : Answer) (s : Bool) (p r : Answer) → not l ≡ false → refused a ≡ true → a ≡ stepped l a s p r
-unfolding stepped
-stops-2 l a s p r e f = rw (e, f)
-
-pub stops-3 : (l : Bool) (a : Answer) (s : Bool) (p r : Answer) → not l ≡ false → a ≡ Done → not s ≡ true → Refused Setting 0 ≡ stepped l a s p r
-unfolding stepped
-stops-3 l a s p r e f g = rw (e, f, g)
-
-pub stops-4 : (l : Bool) (a : Answer) (s : Bool) (p r : Answer) → not l ≡ false → a ≡ Done → not s ≡ false → refused p ≡ true → p ≡ stepped l a s p r
-unfolding stepped
-stops-4 l a s p r e f g h = rw (e, f, g, h)
-
-pub goes-on : (l : Bool) (a : Answer) (s : Bool) (p r : Answer) → not l ≡ false → a ≡ Done → not s ≡ false → p ≡ Done → r ≡ stepped l a s p r
-unfolding stepped
-goes-on l a s p r e f g h = rw (e, f, g, h)
+    (rw (and-true (all finite gravity)))
+    ∙ called-then (fitting regions ids ranges count s nf nw) (limits regions count 0) (set h dt gravity) own x
 
 -- ---- what it has shown
 
@@ -97,22 +72,14 @@ fitted regions ids ranges count s nf nw e =
 pub ready : (own : Answer) (h dt : Float) (gravity : List Float) (regions : ℕ) (ids ranges : List ℕ) (count : ℕ) (s : Store) (nf : List Float) (nw : List ℕ)
     → refused (scatterCheck own h dt gravity regions ids ranges count s (length nf) (length nw)) ≡ false
     → (refused own ≡ false) × (length ids ≡ regions) × (length (s .floats) ≡ count * particleFloats) × Ready h ids ranges s (store nf nw)
-unfolding stepped
 ready own h dt gravity regions ids ranges count s nf nw e =
-    let settings = goodWidth h && (goodStep dt && all finite gravity) in
-    let steps : refused (stepped (fitting regions ids ranges count s (length nf) (length nw)) (limits regions count 0) settings own (checked h ids ranges s count)) ≡ false =
-    rw check-is at e in
-    let rest = checked h ids ranges s count in
-    let four = unless own rest in
-    let three = unless (refuse (not settings) Setting 0) four in
-    let a = unless-passed refused (refuse (not (fitting regions ids ranges count s (length nf) (length nw))) Length 0) (unless (limits regions count 0) three) steps in
-    let b = unless-passed refused (limits regions count 0) three (a .1) in
-    let c = unless-passed refused (refuse (not settings) Setting 0) four (b .1) in
-    let d = unless-passed refused own rest (c .1) in
-    let f =
-    fitted regions ids ranges count s (length nf) (length nw)
-    (not-false (fitting regions ids ranges count s (length nf) (length nw)) (refuse-passed (not (fitting regions ids ranges count s (length nf) (length nw))) Length 0 (a .0))) in (
-      d .0,
+    let fit = fitting regions ids ranges count s (length nf) (length nw) in
+    let lim = limits regions count 0 in
+    let steps : refused (unless (called fit lim (set h dt gravity) own) (checked h ids ranges s count)) ≡ false = rw check-is at e in
+    let a = unless-passed refused (called fit lim (set h dt gravity) own) (checked h ids ranges s count) steps in
+    let p = passed fit lim (set h dt gravity) own (a .0) in
+    let f = fitted regions ids ranges count s (length nf) (length nw) (p .lengths) in (
+      p .own,
       f .counted,
       f .floats-long,
       record {
@@ -120,7 +87,7 @@ ready own h dt gravity regions ids ranges count s nf nw e =
         ranges-long = rw (f .counted) (f .ranges-long);
         particles-held = record { floats-long = f .floats-long; words-long = f .words-long };
         nodes-held = rw (f .counted) (nodes-held regions nf nw (f .room));
-        accepted = accepted h ids ranges s count (d .1);
+        accepted = accepted h ids ranges s count (a .1);
       },
     )
 

@@ -4,13 +4,11 @@ use mathlib.Core.Bool.{Bool, cond, _&&_, not}
 use mathlib.Core.List.{List, [], _∷_, map}
 use Prim.Native.Nat.{ℕ}
 use lib.Dec.{eqb}
-use lib.Ieee.{Float, nan, lt, ne}
-use lib.ListN.{getD}
+use lib.Ieee.{Float, lt, ne}
+use Rattle.numeric.specs.Axes.{pairwise, axes, rows, vector}
 use Rattle.numeric.specs.Bits.{_⊕_, _⊖_, _⊗_, none}
 use Rattle.numeric.specs.Kernel.{invD, dot, precomputeWeights}
 use Rattle.numeric.specs.Scalar.{inverse}
-use Rattle.numeric.specs.declared.dim2.Vector.{Vector}
-use Rattle.numeric.specs.declared.dim2.Matrix.{Matrix}
 use Rattle.cells.specs.Stencil.{dirToAssociatedGridNode, dptOf, weightOf}
 use Rattle.grid.specs.declared.grid_node.GridNode.{GridNode}
 use Rattle.particles.specs.declared.particle.Particle.{Particle}
@@ -47,12 +45,6 @@ pub record Numbers : Type 0 where
   pub velocity : List Float
   pub psiMomentum : Float
   pub psiMass : Float
-
--- f of the entries of two lists, pair by pair
-abbrev pub pairwise : {A B C : Type 0} → (A → B → C) → List A → List B → List C
-pairwise f [] ys = []
-pairwise f (x ∷ xs) [] = []
-pairwise f (x ∷ xs) (y ∷ ys) = f x y ∷ pairwise f xs ys
 
 -- S, zero for a failed particle
 abbrev pub stressOf : Bool → List (List Float) → List (List Float)
@@ -98,15 +90,6 @@ hitBy h dt gravity b shift n =
     }
 
 -- ---- in the plane
-
-abbrev pub axes : Vector → List Float
-axes v = v .x ∷ v .y ∷ []
-
-abbrev pub rows : Matrix → List (List Float)
-rows m = (m .m00 ∷ m .m01 ∷ []) ∷ (m .m10 ∷ m .m11 ∷ []) ∷ []
-
-abbrev pub vector : List Float → Vector
-vector xs = record { x = getD xs 0 nan; y = getD xs 1 nan }
 
 abbrev pub bodyOf : Particle → Body
 bodyOf q =

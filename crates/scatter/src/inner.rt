@@ -1,11 +1,11 @@
 // What the solver's calls share with scatter. No host reaches this.
 ghost use mathlib.Core.Path.{_≡_};
+ghost use Rattle.numeric.specs.Axes.{axes};
 ghost use Rattle.laws.specs.Store.{store};
-ghost use Rattle.scatter.specs.Hit.{axes};
 ghost use Rattle.scatter.specs.Scatter.{scatterCheck};
 use grid::Answer;
-use grid::Rule;
 use grid::inner::RANGE_WORDS;
+use grid::inner::check_call;
 use grid::inner::check_limits;
 use grid::inner::fits;
 use grid::inner::holds_nodes;
@@ -33,20 +33,16 @@ pub fn check_scatter(
 ) -> Answer
     ensures { λ a. ⌜ a ≡ scatterCheck own «cell_width» dt (axes gravity) regions (now (ids .entry)) (now (ranges .entry)) particles (store (now (pf .entry)) (now (pw .entry))) nf nw ⌝ }
 {
-    if !((ids.len() == regions)
-        & (fits(ranges.len(), regions, RANGE_WORDS)
-            & (holds_particles(particles, pf.len(), pw.len()) & holds_nodes(regions, nf, nw)))) {
-        return Answer::Refused(Rule::Length, 0);
-    }
-    let a = check_limits(regions, particles, 0);
+    let a = check_call(
+        (ids.len() == regions)
+            & (fits(ranges.len(), regions, RANGE_WORDS)
+                & (holds_particles(particles, pf.len(), pw.len()) & holds_nodes(regions, nf, nw))),
+        check_limits(regions, particles, 0),
+        is_width(cell_width) & (is_step(dt) & is_finite_vector(gravity)),
+        own,
+    );
     let Answer::Done = a else {
         return a;
-    };
-    if !(is_width(cell_width) & (is_step(dt) & is_finite_vector(gravity))) {
-        return Answer::Refused(Rule::Setting, 0);
-    }
-    let Answer::Done = own else {
-        return own;
     };
     check_particles(cell_width, ids, ranges, pf, pw, particles)
 }

@@ -4,10 +4,10 @@ use mathlib.Core.Path.{sym, _∙_}
 use native.Mathlib.Omega.{arith}
 use borrow.Author.Needs.{needs}
 use denote.Ref.{now}
+use Rattle.numeric.specs.Axes.{axes}
 use Rattle.laws.specs.Store.{store}
 use Rattle.laws.proofs.Refusals.{settle-old}
 use Rattle.grid.proofs.Answers.{stops}
-use Rattle.scatter.specs.Hit.{axes}
 use Rattle.scatter.specs.Scatter.{regionHits, regionScattered}
 use Rattle.scatter.proofs.Checking.{region-ready, range-there}
 use Rattle.scatter.proofs.particle_to_grid.particle_to_grid_scatter_region.Statement.{statement}

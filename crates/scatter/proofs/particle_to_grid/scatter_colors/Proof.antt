@@ -6,11 +6,11 @@ use native.Mathlib.Omega.{arith}
 use borrow.Author.Needs.{needs}
 use lib.ListN.{length}
 use denote.Ref.{now}
+use Rattle.numeric.specs.Axes.{axes}
 use Rattle.laws.specs.Store.{store, Holds}
 use Rattle.laws.specs.Hits.{run, gather}
 use Rattle.laws.proofs.Hits.{run-none, run-more}
 use Rattle.grid.specs.Nodes.{nodeForm, nodes, regionCells}
-use Rattle.scatter.specs.Hit.{axes}
 use Rattle.scatter.specs.Scatter.{colours, colourHits, scatterHits}
 use Rattle.scatter.proofs.Checking.{still-ready}
 use Rattle.scatter.proofs.particle_to_grid.scatter_colors.Statement.{statement}

@@ -8,6 +8,7 @@ use lib.ListN.{length}
 use denote.Ref.{now}
 use Rattle.packing.specs.Ids.{dim2, stencilOf}
 use Rattle.packing.proofs.Laws.{numbers2, stencils2}
+use Rattle.numeric.specs.Axes.{axes}
 use Rattle.laws.specs.Store.{store, Holds}
 use Rattle.laws.specs.Hits.{run, gather}
 use Rattle.laws.proofs.Hits.{run-none, run-left}
@@ -16,7 +17,7 @@ use Rattle.cells.specs.Stencil.{stencilCells}
 use Rattle.grid.specs.Nodes.{nodeForm, nodes, regionCells}
 use Rattle.particles.specs.Particles.{positionOf}
 use Rattle.particles.specs.Table.{listed}
-use Rattle.scatter.specs.Hit.{axes, broughtBy}
+use Rattle.scatter.specs.Hit.{broughtBy}
 use Rattle.scatter.specs.Scatter.{particleHits}
 use Rattle.scatter.proofs.Hitting.{cellHits, these-hits, all-at}
 use Rattle.scatter.proofs.particle_to_grid.scatter_particle.Statement.{statement}

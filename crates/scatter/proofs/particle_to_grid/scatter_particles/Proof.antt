@@ -6,12 +6,12 @@ use native.Mathlib.Omega.{arith}
 use borrow.Author.Needs.{needs}
 use lib.ListN.{length}
 use denote.Ref.{now}
+use Rattle.numeric.specs.Axes.{axes}
 use Rattle.laws.specs.Store.{store, Holds}
 use Rattle.laws.specs.Hits.{run, gather}
 use Rattle.laws.proofs.Hits.{run-none, run-left}
 use Rattle.grid.specs.Nodes.{nodeForm, nodes, regionCells}
 use Rattle.particles.specs.Particles.{particleAt}
-use Rattle.scatter.specs.Hit.{axes}
 use Rattle.scatter.specs.Scatter.{particleHits, rangeHits}
 use Rattle.scatter.proofs.particle_to_grid.scatter_particles.Statement.{statement}
 use Rattle.scatter.proofs.particle_to_grid.scatter_particles.Tie as tie
