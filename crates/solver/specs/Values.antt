@@ -2,27 +2,39 @@
 -- particle stands at its region's edge, so that it and the second hit a common node. Computing goes through packing's definitions. Assumes nothing.
 use mathlib.Core.List.{List, [], _∷_, _++_, map}
 use mathlib.Core.Path.{_≡_, refl}
+use mathlib.Core.Bool.{Bool, true, false, not}
 use Prim.Native.Nat.{ℕ, zero, suc}
-use lib.Ieee.{Float, binary32, lt, le, round, toUnsigned, div, ofBits}
+use lib.Dec.{eqb}
+use lib.Ieee.{Float, binary32, neg, lt, le, ne, eq, round, toUnsigned, add, sub, mul, div, ofBits, ofInt}
 use lib.ListN.{length}
 use Rattle.packing.specs.Mask.{coord, place, count, coords, packed, sums, sumOf}
-use Rattle.packing.specs.Ids.{dim2, packedId, sum, region, number, fromFours, colour, packedShifts, stencilOf}
+use Rattle.packing.specs.Ids.{dim2, packedId, sum, region, number, fromFours, toFours, cellOf, colour, packedShifts, stencilOf}
 use Rattle.numeric.specs.Bits.{none, one, four}
+use Rattle.numeric.specs.Kernel.{invD, evalAll, precomputeWeights}
 use Rattle.numeric.specs.Round.{roundAway}
+use Rattle.numeric.specs.Scalar.{inverse}
 use Rattle.laws.specs.Store.{Store, store}
-use Rattle.laws.specs.Hits.{only, gather}
+use Rattle.laws.specs.Hits.{only, hit, run, gather}
 use Rattle.laws.specs.Refusals as Refusals
+use Rattle.laws.proofs.Records.{records}
 use Rattle.cells.specs.Cells.{cellAssociatedToPoint, regionAssociatedToPoint}
+use Rattle.cells.specs.Stencil.{dirToAssociatedGridNode}
 use Rattle.cells.specs.Lookup.{halved, narrowed, left, searched, lookup}
-use Rattle.grid.specs.Table.{finite, goodWidth, goodStep, badRegion, regionIds, before, misplaced, cover}
+use Rattle.grid.specs.Nodes.{nodeAt, nodes}
+use Rattle.grid.specs.Clear.{cleared}
+use Rattle.grid.specs.Table.{all, finite, flags, numbers, goodWidth, goodStep, badRegion, regionIds, before, misplaced, cover}
 use Rattle.grid.specs.declared.Answer.the-variants.{Done, Refused}
 use Rattle.grid.specs.declared.Rule.the-variants.{Length, Code}
 use Rattle.particles.specs.Particles.{particleAt}
 use Rattle.particles.specs.Table.{badFlag, notFinite, onAxis, offGrid, outOfRegion, unlisted, judged, firstParticle, outOfRegions, placed, checked}
-use Rattle.scatter.specs.Scatter.{shiftHits, particleHits, rangeHits, regionHits, colouredHits, colourHits, scatterCheck, placeCheck}
+use Rattle.scatter.specs.Scatter.{shiftHits, particleHits, rangeHits, regionHits, colouredHits, colourHits, scatterHits, scattered, scatterCheck, placeCheck}
+use Rattle.scatter.specs.Hit.{brought, hitBy, changed}
+use Rattle.update.specs.Boundary.{handled, collided}
+use Rattle.update.specs.Update.{lockedNode, afterColliders, updatedNode, regionUpdates, updates, updated}
 use Rattle.solver.specs.Order.{repeated, outOfTurn, turns, orderCheck}
+use Rattle.solver.specs.Clearing.{stencilId, nodeId, recordsCheck, stepCheck, stepped}
 
-abbrev many : ℕ → Float → List Float
+abbrev many : {A : Type 0} → ℕ → A → List A
 many zero x = []
 many (suc n) x = x ∷ many n x
 
@@ -44,6 +56,17 @@ ranges = 0 ∷ 1 ∷ 1 ∷ 1 ∷ 2 ∷ 1 ∷ []
 abbrev still : List Float
 still = none ∷ none ∷ []
 
+-- one collider, on which every cell projects outside at (0, 0)
+abbrev frictions : List Float
+frictions = one ∷ []
+
+abbrev projections : Store
+projections = store (many 96 none) (many 48 0)
+
+-- whether no particle's stencil has the cell c of the region at r
+abbrev missed : ℕ → ℕ → Bool
+missed r c = all (λ (p : ℕ). all (λ (k : ℕ). not (eqb (stencilId one particles p k) (nodeId ids r c))) (0 ∷ 1 ∷ 2 ∷ 3 ∷ 4 ∷ 5 ∷ 6 ∷ 7 ∷ 8 ∷ [])) (0 ∷ 1 ∷ 2 ∷ [])
+
 pub record Values : Type 0 where
   -- the first and the last region have one colour
   pub colours : map (colour dim2) ids ≡ 0 ∷ 1 ∷ 0 ∷ []
@@ -55,7 +78,16 @@ pub record Values : Type 0 where
       ≡ Done ∷ Done ∷ Refused Code 2 ∷ Refused Code 1 ∷ Refused Code 0 ∷ Refused Length 0 ∷ []
   -- the node of the cell (4, 0), at place 16, is hit by a region of colour 0 and by one of colour 1
   pub shared : map (λ (c : ℕ). length (only 16 (colourHits one one still ids ranges particles c))) (0 ∷ 1 ∷ 2 ∷ 3 ∷ []) ≡ 1 ∷ 1 ∷ 0 ∷ 0 ∷ []
+  -- clear, scatter and update in turn accept it too, with friction and no lock; not with a lock of a third axis, nor a friction too few
+  pub steps : map (λ (l : ℕ). stepCheck one one still 2 l 3 ids ranges 3 particles 1 frictions projections 336 48) (0 ∷ 4 ∷ []) ≡ Done ∷ Refused Code 0 ∷ []
+  pub short : stepCheck one one still 2 0 3 ids ranges 3 particles 1 [] projections 336 48 ≡ Refused Length 0
+  -- the cell (4, 0) is reached, the last of its region and the last of all are not
+  pub reached : missed 1 0 ≡ false
+  pub unreached : (missed 1 15 ≡ true) × (missed 2 15 ≡ true)
+  -- from nodes of ones they leave the one the mass 6/64 of the first particle and 1/64 of the second, and the other none
+  pub masses : map (λ (k : ℕ). nodeAt (stepped one one still 0 0 3 ids ranges 3 particles 1 frictions projections (store (many 336 one) (many 48 1))) k .mass) (16 ∷ 31 ∷ [])
+      ≡ ofBits binary32 0x3de00000 ∷ none ∷ []
 
 pub values : Values
-unfolding scatterCheck orderCheck turns outOfTurn repeated checked placed judged firstParticle outOfRegions badFlag notFinite onAxis offGrid outOfRegion unlisted particleAt finite goodWidth goodStep badRegion regionIds before misplaced cover Refusals.firstOf cellAssociatedToPoint regionAssociatedToPoint lookup searched left narrowed halved shiftHits particleHits rangeHits regionHits colouredHits colourHits only gather packedId packed place sum sumOf sums coords coord count dim2 region number fromFours colour packedShifts stencilOf roundAway round toUnsigned lt le div ofBits
-values = record { colours = refl; accepted = refl; regions = refl; orders = refl; shared = refl }
+unfolding stepped updated updates regionUpdates updatedNode lockedNode afterColliders collided handled scattered scatterHits cleared run hit nodes records nodeAt changed hitBy brought dirToAssociatedGridNode precomputeWeights evalAll invD inverse ne eq neg add sub mul ofInt stepCheck recordsCheck flags numbers scatterCheck orderCheck turns outOfTurn repeated checked placed judged firstParticle outOfRegions badFlag notFinite onAxis offGrid outOfRegion unlisted particleAt finite goodWidth goodStep badRegion regionIds before misplaced cover Refusals.firstOf cellAssociatedToPoint regionAssociatedToPoint lookup searched left narrowed halved shiftHits particleHits rangeHits regionHits colouredHits colourHits only gather packedId packed place sum sumOf sums coords coord count dim2 region number fromFours colour packedShifts stencilOf roundAway round toUnsigned lt le div ofBits cellOf toFours
+values = record { colours = refl; accepted = refl; regions = refl; orders = refl; shared = refl; steps = refl; short = refl; reached = refl; unreached = (refl, refl); masses = refl }

@@ -1,13 +1,15 @@
 // The calls in sequence.
+pub mod step;
+
 ghost use mathlib.Core.Path.{_≡_};
 ghost use Prim.Native.Nat.{_<_};
 ghost use lib.ListN.{length};
 ghost use Rattle.packing.specs.Ids.{dim2, colour};
+ghost use Rattle.numeric.specs.Axes.{axes};
 ghost use Rattle.laws.specs.Store.{store};
 ghost use Rattle.laws.specs.Refusals.{settle};
 ghost use Rattle.grid.specs.Answers.{refused};
 ghost use Rattle.grid.specs.declared.Answer.the-variants.{Done};
-ghost use Rattle.scatter.specs.Hit.{axes};
 ghost use Rattle.scatter.specs.Scatter.{scattered};
 ghost use Rattle.solver.specs.Order.{colourAt, repeated, outOfTurn, turns, orderCheck, inOrder};
 use grid::Answer;

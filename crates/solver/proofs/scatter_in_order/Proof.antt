@@ -4,10 +4,10 @@ use mathlib.Core.Path.{refl, sym, _∙_}
 use borrow.Author.Needs.{needs}
 use lib.ListN.{length}
 use denote.Ref.{now}
+use Rattle.numeric.specs.Axes.{axes}
 use Rattle.laws.specs.Store.{store}
 use Rattle.laws.proofs.Refusals.{settle-old}
 use Rattle.grid.proofs.Answers.{stops}
-use Rattle.scatter.specs.Hit.{axes}
 use Rattle.solver.proofs.Demand.{same-bits}
 use Rattle.solver.proofs.Turning.{too-long, then-scatter, turned}
 use Rattle.solver.proofs.scatter_in_order.Statement.{statement}

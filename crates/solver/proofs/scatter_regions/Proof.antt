@@ -7,10 +7,10 @@ use native.Mathlib.Omega.{arith}
 use borrow.Author.Needs.{needs}
 use lib.ListN.{length}
 use denote.Ref.{now}
+use Rattle.numeric.specs.Axes.{axes}
 use Rattle.laws.specs.Store.{store}
 use Rattle.grid.specs.Answers.{refused}
 use Rattle.grid.proofs.Answers.{stops}
-use Rattle.scatter.specs.Hit.{axes}
 use Rattle.solver.specs.Order.{inOrder}
 use Rattle.solver.proofs.Turning.{region-accepted, one-more}
 use Rattle.solver.proofs.scatter_regions.Statement.{statement}
