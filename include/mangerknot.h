@@ -5,10 +5,11 @@
  * Numbers and structs cross by value. A flag crosses as a uint32_t, 0 or 1.
  *
  * Pointers: behind each stands the count of the entries (not bytes) that it points to; it may be NULL only with a count of 0. A
- * function stays within those entries and keeps no pointer. Only mk_clear2 and the scatters write to any, to nodes, and only where
- * they answer 0. That a pointer is valid and aligned for so many entries, and that entries which are written (those without const) overlap no others of
- * the same call, nobody can check behind the call: it is for the caller to see to. The compiler passes the place of a long answer
- * by a pointer of its own making, which is right where the caller includes this file.
+ * function stays within those entries and keeps no pointer. Only mk_clear2, the scatters, mk_grid_update2 and
+ * mk_clear_scatter_update2 write to any, to nodes, and only where they answer 0. That a pointer is valid and aligned for so many
+ * entries, and that entries which are written (those without const) overlap no others of the same call, nobody can check behind the
+ * call: it is for the caller to see to. The compiler passes the place of a long answer by a pointer of its own making, which is right
+ * where the caller includes this file.
  *
  * Floats: every NaN is taken, and an answered NaN may have any NaN's pattern; mk_to_bits gives every NaN the pattern 7FC00000. Lent
  * NaNs keep their patterns where a call refuses: that is tested and not proved.
@@ -133,13 +134,14 @@ typedef struct { uint32_t found; size_t place; } mk_found_place;
 
 /*
  * Whether a call was refused: 0 and 0 where it was done, else the number of a rule and the index of the first record that breaks
- * it (0 for 1 to 3, and for a place in 4). Of several rules that are broken the least is answered, and then nothing was written.
+ * it (0 for 1 to 3, and for a place, boundary handling and locks in 4). Of several rules that are broken the least is answered, and
+ * then nothing was written.
  *   1  a length does not match its count
- *   2  a count is over its limit: 512 regions, 65,536 particles
+ *   2  a count is over its limit: 512 regions, 65,536 particles, 16 colliders
  *   3  the cell width is not from 2^-20 to 2^20, dt is not above 0, or they or a part of gravity are not finite
- *   4  a place is no region's, an entry of an order is none's, named again or of a lower colour than the one before it; after these,
- *      a word of a particle is neither 0 nor 1
- *   5  a number of a particle is not finite
+ *   4  a place is no region's, an entry of an order is none's, named again or of a lower colour than the one before it, boundary
+ *      handling or locks are above 3; after these, a word of a particle is neither 0 nor 1, or of a projection
+ *   5  a number of a particle is not finite; after these, of a collider; after these, of a projection
  *   6  region ids do not strictly ascend (of such a pair, the later one), or have one of their low 12 bits set
  *   7  a region's start is not the sum of the counts before it, or its count goes beyond the last particle; the index is the number of
  *      regions where particles are left over
@@ -201,6 +203,39 @@ mk_refusal mk_scatter_in_order2(const uint64_t *order, size_t order_len, float c
                                 const float *particle_floats, size_t particle_floats_len, const uint32_t *particle_words,
                                 size_t particle_words_len, float *node_floats, size_t node_floats_len, uint32_t *node_words,
                                 size_t node_words_len);
+
+/* ---- Update: locks and boundaries ---- */
+
+/*
+ * boundary_handling is 0 none, 1 stick, 2 friction, 3 friction z-up; of simulation_dofs, bit 0 locks x and bit 1 locks y. A collider
+ * has one float, its friction. A projection has two floats, the point x, y that a collider's shape has for the centre of a cell, and one
+ * word, 1 where that centre is inside and 0 where not; it is one for each region, cell and collider, in this order. So collider_floats
+ * has as many entries as there are colliders, projection_words 16 times as many as regions times colliders, projection_floats twice
+ * as many as these. Nodes are as in mk_clear2, and read as they are. Refuses 1 to 6.
+ *
+ * Every node of every listed region: locked axes of momentum and velocity become 0; then, collider by collider, a flag of 0 becomes 1
+ * where the centre is inside, and the velocity is handled. Stick makes it 0 inside. Both frictions act alike, on a velocity that goes
+ * towards the collider: where the centre is inside, or no farther from the point than a cell's width, only the part along the
+ * surface is left, less friction; where it is farther, so much of the velocity as is left to go in dt. What is not computed keeps every
+ * bit, and a result that overflows is stored as it is.
+ */
+mk_refusal mk_grid_update2(float cell_width, float dt, uint32_t boundary_handling, uint32_t simulation_dofs, size_t regions,
+                           const uint64_t *ids, size_t ids_len, size_t colliders, const float *collider_floats,
+                           size_t collider_floats_len, const float *projection_floats, size_t projection_floats_len,
+                           const uint32_t *projection_words, size_t projection_words_len, float *node_floats, size_t node_floats_len,
+                           uint32_t *node_words, size_t node_words_len);
+/*
+ * mk_clear2, mk_particle_to_grid_scatter2 and mk_grid_update2 in one: the nodes are those of the three calls one after the other.
+ * Refuses 1 to 10, of all that it is given; so it is done just where the three are, and where it is not, none of them is begun.
+ */
+mk_refusal mk_clear_scatter_update2(float cell_width, float dt, mk_vector2 gravity, uint32_t boundary_handling,
+                                    uint32_t simulation_dofs, size_t regions, const uint64_t *ids, size_t ids_len,
+                                    const uint64_t *ranges, size_t ranges_len, size_t particles, const float *particle_floats,
+                                    size_t particle_floats_len, const uint32_t *particle_words, size_t particle_words_len,
+                                    size_t colliders, const float *collider_floats, size_t collider_floats_len,
+                                    const float *projection_floats, size_t projection_floats_len, const uint32_t *projection_words,
+                                    size_t projection_words_len, float *node_floats, size_t node_floats_len, uint32_t *node_words,
+                                    size_t node_words_len);
 
 #ifdef __cplusplus
 }

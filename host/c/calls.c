@@ -185,6 +185,58 @@ static void refused_scatters(void) {
     EXPECT(node_floats[0] == 0.0f && node_floats[35] == 0.0f);
 }
 
+/* A wall at x = -0.5, of friction 0.25: its points for the 16 cells of region 0, whose first has its centre at (0, 0). */
+static const float friction[1] = {0.25f};
+static float wall[32];
+static uint32_t inside[16];
+
+static void build_wall(void) {
+    for (int k = 0; k < 16; k++) {
+        wall[2 * k] = -0.5f;
+        wall[2 * k + 1] = (float)(k / 4);
+    }
+}
+
+/* The first node goes to the wall, and leaves along it; the next one is farther from it than it goes. */
+static void updates(void) {
+    float node_floats[112] = {1, 2, 3, -1, 2, 4, 5, 1, 2, 3, -0.25f, 2, 4, 5};
+    uint32_t node_words[16] = {7, 0};
+    const float first[7] = {1, 2, 3, 0, 1.75f, 4, 5}, second[7] = {1, 2, 3, -0.25f, 2, 4, 5}, locked[7] = {1, 0, 3, 0, 1.75f, 4, 5};
+    mk_refusal done = mk_grid_update2(1.0f, 1.0f, 2, 0, 1, region, 1, 1, friction, 1, wall, 32, inside, 16, node_floats, 112,
+                                      node_words, 16);
+    EXPECT(done.number == 0 && done.index == 0);
+    EXPECT(memcmp(node_floats, first, sizeof first) == 0 && memcmp(node_floats + 7, second, sizeof second) == 0);
+    EXPECT(node_floats[14] == 0.0f && node_floats[111] == 0.0f && node_words[0] == 7 && node_words[1] == 0);
+    done = mk_grid_update2(1.0f, 1.0f, 0, 1, 1, region, 1, 0, NULL, 0, NULL, 0, NULL, 0, node_floats, 112, node_words, 16);
+    EXPECT(done.number == 0 && done.index == 0 && memcmp(node_floats, locked, sizeof locked) == 0);
+}
+
+/* Clear, scatter and update: the listing's nodes whatever was there before, as they go away from the wall. */
+static void sequences(void) {
+    float node_floats[112];
+    uint32_t node_words[16];
+    memset(node_floats, 0xa5, sizeof node_floats);
+    memset(node_words, 0xa5, sizeof node_words);
+    mk_refusal done = mk_clear_scatter_update2(1.0f, 1.0f, no_gravity, 3, 0, 1, region, 1, range, 2, 1, particle, 26, flags, 4, 1,
+                                               friction, 1, wall, 32, inside, 16, node_floats, 112, node_words, 16);
+    EXPECT(done.number == 0 && done.index == 0);
+    expect_listing(node_floats, node_words);
+}
+
+static void refused_updates(void) {
+    float node_floats[112] = {1, 2, 3, -1, 2, 4, 5};
+    uint32_t node_words[16] = {0}, no_flag[16] = {0, 0, 2};
+    mk_refusal refused = mk_grid_update2(1.0f, 1.0f, 4, 0, 1, region, 1, 1, friction, 1, wall, 32, inside, 16, node_floats, 112,
+                                         node_words, 16);
+    EXPECT(refused.number == 4 && refused.index == 0);
+    refused = mk_grid_update2(1.0f, 1.0f, 1, 3, 1, region, 1, 1, friction, 1, wall, 32, no_flag, 16, node_floats, 112, node_words, 16);
+    EXPECT(refused.number == 4 && refused.index == 2);
+    refused = mk_clear_scatter_update2(1.0f, 1.0f, no_gravity, 1, 3, 1, region, 1, range, 2, 1, particle, 26, flags, 4, 1, friction,
+                                       1, wall, 31, inside, 16, node_floats, 112, node_words, 16);
+    EXPECT(refused.number == 1 && refused.index == 0);
+    EXPECT(node_floats[0] == 1.0f && node_floats[1] == 2.0f && node_floats[3] == -1.0f && node_words[0] == 0);
+}
+
 int main(void) {
     ids_in_2d();
     ids_in_3d();
@@ -195,5 +247,9 @@ int main(void) {
     nodes();
     scatters();
     refused_scatters();
+    build_wall();
+    updates();
+    sequences();
+    refused_updates();
     return wrong;
 }

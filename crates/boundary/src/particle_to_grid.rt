@@ -1,11 +1,11 @@
 // Scatter over the boundary: of all regions, of one, and of each in an order. Only nodes are written to, and only by a call that is done.
 ghost use mathlib.Core.Path.{_≡_};
 ghost use lib.ListN.{length};
+ghost use Rattle.numeric.specs.Axes.{axes};
 ghost use Rattle.laws.specs.Store.{store};
 ghost use Rattle.laws.specs.Refusals.{settle};
 ghost use Rattle.grid.specs.Answers.{numberOf, indexOf, refused};
 ghost use Rattle.grid.specs.declared.Answer.the-variants.{Done};
-ghost use Rattle.scatter.specs.Hit.{axes};
 ghost use Rattle.scatter.specs.Scatter.{scattered, regionScattered, placeCheck, scatterCheck};
 ghost use Rattle.solver.specs.Order.{orderCheck};
 use crate::answers::Refusal;

@@ -1,58 +1,19 @@
 //! The three calls of scatter through the archive: the scatter vectors, random calls, and every word of lent memory.
 
 mod archive;
+mod guarded;
 mod lent;
 mod replay;
 
-use archive::{Lists, Which};
-use lent::Lent;
+use archive::Which;
+use guarded::{ask, done, Nodes};
 use mangerknot_sys::*;
 use replay::{decimal, replay};
-use samples::lines::Edit;
 use samples::random::{order, Style};
 use samples::{Call, Rng, PARTICLE_FLOATS};
 use std::ptr;
 
 const SEED: u64 = 0x5363_6174_7465_7221;
-
-/// The nodes' floats, by their bits, and words.
-type Nodes = (Vec<u32>, Vec<u32>);
-
-/// A call on lent memory between guards: what it answers, and the nodes afterwards. Whatever else was lent is as it was, and so
-/// are the nodes where the call is refused.
-fn scatter(which: &Which, call: &Call) -> (Refusal, Nodes) {
-    let (wide, narrow) = ([u64::MAX, 0], [0x7f80_0001, 0xffff_ffff]);
-    let (mut ids, mut ranges) = (Lent::of(&call.ids, wide), Lent::of(&call.ranges, wide));
-    let mut order = Lent::of(if let Which::Order(order) = which { order } else { &[] }, wide);
-    let mut particle_floats = Lent::of(&call.particle_floats, narrow);
-    let mut particle_words = Lent::of(&call.particle_words, narrow);
-    let (mut node_floats, mut node_words) = (Lent::of(&call.node_floats, narrow), Lent::of(&call.node_words, narrow));
-    let lists = Lists {
-        ids: ids.lent(),
-        ranges: ranges.lent(),
-        particle_floats: particle_floats.lent(),
-        particle_words: particle_words.lent(),
-        node_floats: node_floats.lent(),
-        node_words: node_words.lent(),
-    };
-    let refusal = match which {
-        Which::Order(_) => archive::scatter(&Which::Order(order.lent()), call, lists),
-        _ => archive::scatter(which, call, lists),
-    };
-    assert!(order.is_kept() && ids.is_kept() && ranges.is_kept() && particle_floats.is_kept() && particle_words.is_kept());
-    assert!(node_floats.guards_are_kept() && node_words.guards_are_kept());
-    if refusal.number != 0 {
-        assert!(node_floats.is_kept() && node_words.is_kept(), "refused by {}, and not every word is as it was", refusal.number);
-    }
-    (refusal, (node_floats.lent().to_vec(), node_words.lent().to_vec()))
-}
-
-/// The nodes after a call that has to be done.
-fn done(which: &Which, call: &Call) -> Nodes {
-    let (refusal, nodes) = scatter(which, call);
-    assert_eq!(refusal, Refusal { number: 0, index: 0 });
-    nodes
-}
 
 fn hits(which: &Which, call: &Call) -> Vec<bool> {
     match which {
@@ -61,16 +22,8 @@ fn hits(which: &Which, call: &Call) -> Vec<bool> {
     }
 }
 
-/// The archive's answer to a question about a call.
 fn answer(which: &Which, call: &Call, edits: &[&str]) -> String {
-    let edits: Vec<Edit> = edits.iter().map(|edit| edit.parse().expect("a change")).collect();
-    let call = call.edited(&edits);
-    let (Refusal { number, index }, (floats, words)) = scatter(which, &call);
-    let mut fields = vec![number.to_string(), index.to_string()];
-    if number == 0 {
-        fields.extend(call.answered((&floats, &words), &hits(which, &call)));
-    }
-    fields.join("\t")
+    guarded::answer(which, call, edits, |call, (floats, words)| call.answered((floats, words), &hits(which, call)))
 }
 
 #[test]
@@ -144,7 +97,7 @@ fn what_overflowed_is_stored_and_refused_as_input() {
     assert_eq!(f32::from_bits(middle), f32::INFINITY);
     call.particle_floats[PARTICLE_FLOATS + 16] = middle;
     for which in [Which::All, Which::Region(0), Which::Order(&order(&call, &mut rng))] {
-        assert_eq!(scatter(&which, &call).0, Refusal { number: 5, index: 1 });
+        assert_eq!(ask(&which, &call).0, Refusal { number: 5, index: 1 });
     }
 }
 

@@ -1,5 +1,5 @@
-//! Calls of a scatter to judge by: made from a seed (`random`), written in lines and read again (`lines`). The rules are document
-//! 01's (`plane`); nothing is taken from the port.
+//! Calls of a scatter and of an update to judge by: made from a seed (`random`), written in lines and read again (`lines`). The
+//! rules are document 01's (`plane`); nothing is taken from the port.
 
 pub mod lines;
 pub mod plane;
@@ -14,8 +14,12 @@ pub const PARTICLE_WORDS: usize = 4;
 pub const NODE_FLOATS: usize = 7;
 pub const REGION_NODES: usize = 16;
 pub const REGION_FLOATS: usize = REGION_NODES * NODE_FLOATS;
+pub const PROJECTION_FLOATS: usize = 2;
 
-/// All that a scatter is given. Floats of records are kept as bits, so that no NaN loses its pattern.
+/// Where a node's velocity stands among its floats.
+pub const VELOCITY: usize = 3;
+
+/// All that a scatter is given, and an update. Floats of records are kept as bits, so that no NaN loses its pattern.
 #[derive(Clone, Debug, PartialEq)]
 pub struct Call {
     pub cell_width: f32,
@@ -29,10 +33,29 @@ pub struct Call {
     pub particle_words: Vec<u32>,
     pub node_floats: Vec<u32>,
     pub node_words: Vec<u32>,
+    pub boundary: Boundary,
 }
 
+/// What an update is given beside settings, regions and nodes: its own settings, and of each collider a friction and the points
+/// that it has for the cells, whether inside or not, ordered by region, cell and collider.
+#[derive(Clone, Debug, Default, PartialEq)]
+pub struct Boundary {
+    pub handling: u32,
+    pub locks: u32,
+    pub colliders: u64,
+    pub frictions: Vec<u32>,
+    pub points: Vec<u32>,
+    pub insides: Vec<u32>,
+}
+
+/// Codes of boundary handling.
+pub const NONE: u32 = 0;
+pub const STICK: u32 = 1;
+pub const FRICTION: u32 = 2;
+pub const FRICTION_Z_UP: u32 = 3;
+
 impl Call {
-    /// A call on these regions, with no particle and empty nodes.
+    /// A call on these regions, with no particle, no collider and empty nodes.
     pub fn on(ids: Vec<u64>) -> Call {
         let regions = ids.len();
         Call {
@@ -47,6 +70,40 @@ impl Call {
             particle_words: vec![],
             node_floats: vec![0; regions * REGION_FLOATS],
             node_words: vec![0; regions * REGION_NODES],
+            boundary: Boundary::default(),
+        }
+    }
+
+    /// The call with these colliders, whose points are all the origin, and outside.
+    pub fn bounded(self, handling: u32, frictions: &[f32]) -> Call {
+        let projections = self.ids.len() * REGION_NODES * frictions.len();
+        let boundary = Boundary {
+            handling,
+            locks: 0,
+            colliders: frictions.len() as u64,
+            frictions: frictions.iter().map(|friction| friction.to_bits()).collect(),
+            points: vec![0; projections * PROJECTION_FLOATS],
+            insides: vec![0; projections],
+        };
+        Call { boundary, ..self }
+    }
+
+    /// The same particles on a list that has more regions, with empty nodes and no collider.
+    pub fn on_list(&self, ids: &[u64]) -> Call {
+        let mut call = Call::on(ids.to_vec());
+        let counts = ids.iter().map(|id| self.ids.binary_search(id).map_or(0, |place| self.ranges[2 * place + 1]));
+        for (range, count) in call.ranges.chunks_exact_mut(2).zip(counts) {
+            range.copy_from_slice(&[call.particles, count]);
+            call.particles += count;
+        }
+        assert_eq!(call.particles, self.particles, "a region that is not listed");
+        Call {
+            cell_width: self.cell_width,
+            dt: self.dt,
+            gravity: self.gravity,
+            particle_floats: self.particle_floats.clone(),
+            particle_words: self.particle_words.clone(),
+            ..call
         }
     }
 
@@ -79,5 +136,44 @@ pub fn canonical(bits: u32) -> u32 {
         WRITTEN_NAN
     } else {
         bits
+    }
+}
+
+#[cfg(test)]
+mod tests {
+    use super::*;
+    use random::{bounded, Style};
+
+    #[test]
+    fn on_a_longer_list_as_many_nodes_are_hit() {
+        let mut rng = Rng::new(7);
+        for _ in 0..50 {
+            let calls = Style::any(&mut rng).samples_on_one_list(3, &mut rng);
+            assert!(calls.iter().all(|call| call.ids == calls[0].ids && call.ids.windows(2).all(|pair| pair[0] < pair[1])));
+            let alone = Style::any(&mut rng).sample(&mut rng);
+            let mut ids = [&alone.ids[..], &[1 << 60, 1 << 61]].concat();
+            ids.sort_unstable();
+            let listed = alone.on_list(&ids);
+            let count = |call: &Call| call.hits(None).iter().filter(|hit| **hit).count();
+            assert_eq!(count(&alone), count(&listed));
+        }
+    }
+
+    /// Of the points about cells some are at the centre, some within a cell's width, some beyond, and all are finite.
+    #[test]
+    fn a_boundarys_points_lie_about_its_cells() {
+        let mut rng = Rng::new(8);
+        let call = bounded(Call::on(vec![0, 4096]), 16, &mut rng);
+        assert!(call.boundary.points.iter().all(|bits| f32::from_bits(*bits).is_finite()));
+        let distance = |place: usize| {
+            let cell = place / 16;
+            let centre = plane::centre(plane::cell_of(call.ids[cell / REGION_NODES], cell % REGION_NODES), 1.0);
+            let away = [0, 1].map(|axis| centre[axis] - f32::from_bits(call.boundary.points[2 * place + axis]));
+            (away[0] * away[0] + away[1] * away[1]).sqrt()
+        };
+        let near = |low: f32, high: f32| (0..512).filter(|place| (low..high).contains(&distance(*place))).count();
+        assert!([near(0.0, 1e-9), near(1e-6, 1e-4), near(0.01, 0.999), near(0.99999, 1.00001), near(1.01, 5.0)]
+            .iter()
+            .all(|count| *count > 15));
     }
 }

@@ -1,10 +1,10 @@
 //! Calls in fields of lines, and what a question changes about a call.
 
-use crate::{canonical, Call, NODE_FLOATS, PARTICLE_FLOATS, PARTICLE_WORDS, REGION_NODES};
+use crate::{canonical, Boundary, Call, NODE_FLOATS, PARTICLE_FLOATS, PARTICLE_WORDS, PROJECTION_FLOATS, REGION_NODES};
 use std::fmt;
 use std::str::FromStr;
 
-/// How an empty node is written, and one that is as it was.
+/// How a node of zeros is written, or a projection, and a node that is as it was.
 const EMPTY: &str = "0";
 const KEPT: &str = "=";
 
@@ -19,7 +19,17 @@ impl Call {
         fields.push(self.particles.to_string());
         let particles = self.particle_floats.chunks_exact(PARTICLE_FLOATS).zip(self.particle_words.chunks_exact(PARTICLE_WORDS));
         fields.extend(particles.map(|(floats, words)| hex(floats) + &hex(words)));
-        fields.extend((0..self.node_words.len()).map(|place| self.node(place)));
+        fields.extend(records(&self.node_floats, NODE_FLOATS, &self.node_words));
+        fields
+    }
+
+    /// These fields, and behind them the boundary's: settings, colliders, projections.
+    pub fn bounded_fields(&self) -> Vec<String> {
+        let Boundary { handling, locks, colliders, frictions, points, insides } = &self.boundary;
+        let mut fields = self.fields();
+        fields.extend([handling.to_string(), locks.to_string(), colliders.to_string()]);
+        fields.extend(frictions.iter().map(|friction| word(*friction)));
+        fields.extend(records(points, PROJECTION_FLOATS, insides));
         fields
     }
 
@@ -30,6 +40,21 @@ impl Call {
     /// A call from its fields; anything else is a fault of the file.
     pub fn from_fields(fields: &[&str]) -> Call {
         let mut fields = fields.iter().copied();
+        let call = Call::read(&mut fields);
+        assert_eq!(fields.next(), None, "fields left over");
+        call
+    }
+
+    /// A call from its fields and, behind them, its boundary's.
+    pub fn from_bounded_fields(fields: &[&str]) -> Call {
+        let mut fields = fields.iter().copied();
+        let call = Call::read(&mut fields);
+        let boundary = Boundary::read(&mut fields, call.ids.len());
+        assert_eq!(fields.next(), None, "fields left over");
+        Call { boundary, ..call }
+    }
+
+    fn read<'a>(fields: &mut impl Iterator<Item = &'a str>) -> Call {
         let mut next = || fields.next().expect("another field");
         let [cell_width, dt, x, y] = [0; 4].map(|_| f32::from_bits(bits(next())));
         let mut call = Call { cell_width, dt, gravity: [x, y], ..Call::on(vec![]) };
@@ -39,30 +64,10 @@ impl Call {
             call.ranges.extend([0; 2].map(|_| decimal::<u64>(next())));
         }
         call.particles = decimal(next());
-        for _ in 0..call.particles {
-            let (floats, words) = parted(next(), PARTICLE_FLOATS);
-            call.particle_floats.extend(floats);
-            call.particle_words.extend(words);
-        }
-        for _ in 0..call.ids.len() * REGION_NODES {
-            let (floats, words) = match next() {
-                EMPTY => (vec![0; NODE_FLOATS], vec![0]),
-                node => parted(node, NODE_FLOATS),
-            };
-            call.node_floats.extend(floats);
-            call.node_words.extend(words);
-        }
-        assert_eq!(fields.next(), None, "fields left over");
+        (call.particle_floats, call.particle_words) =
+            read_records(fields, call.particles as usize, PARTICLE_FLOATS, PARTICLE_WORDS);
+        (call.node_floats, call.node_words) = read_records(fields, call.ids.len() * REGION_NODES, NODE_FLOATS, 1);
         call
-    }
-
-    fn node(&self, place: usize) -> String {
-        let floats = &self.node_floats[place * NODE_FLOATS..][..NODE_FLOATS];
-        if floats.iter().chain(&self.node_words[place..=place]).all(|part| *part == 0) {
-            EMPTY.to_string()
-        } else {
-            hex(floats) + &word(self.node_words[place])
-        }
     }
 
     /// The nodes after a call that was done, as an answer has them: a node that was hit with one pattern for every NaN, and of
@@ -78,11 +83,55 @@ impl Call {
         nodes.collect()
     }
 
+    /// The nodes after a call that may write to any of them.
+    pub fn all_answered(&self, after: (&[u32], &[u32])) -> Vec<String> {
+        let nodes = |floats: &[u32], words: &[u32]| -> Vec<(Vec<u32>, u32)> {
+            floats.chunks_exact(NODE_FLOATS).map(<[u32]>::to_vec).zip(words.iter().copied()).collect()
+        };
+        let (before, now) = (nodes(&self.node_floats, &self.node_words), nodes(after.0, after.1));
+        let moved: Vec<bool> = before.iter().zip(&now).map(|(before, now)| before != now).collect();
+        self.answered(after, &moved)
+    }
+
     pub fn edited(&self, edits: &[Edit]) -> Call {
         let mut call = self.clone();
         edits.iter().for_each(|edit| edit.apply(&mut call));
         call
     }
+}
+
+impl Boundary {
+    fn read<'a>(fields: &mut impl Iterator<Item = &'a str>, regions: usize) -> Boundary {
+        let mut next = || fields.next().expect("another field");
+        let (handling, locks, colliders) = (decimal(next()), decimal(next()), decimal(next()));
+        let frictions = (0..colliders).map(|_| bits(next())).collect();
+        let (points, insides) = read_records(fields, regions * REGION_NODES * colliders as usize, PROJECTION_FLOATS, 1);
+        Boundary { handling, locks, colliders, frictions, points, insides }
+    }
+}
+
+/// Records of so many floats and one word each, in the fields of a line.
+fn records<'a>(floats: &'a [u32], each: usize, words: &'a [u32]) -> impl Iterator<Item = String> + 'a {
+    floats.chunks_exact(each).zip(words).map(|(floats, last)| match floats.iter().chain([last]).all(|part| *part == 0) {
+        true => EMPTY.to_string(),
+        false => hex(floats) + &word(*last),
+    })
+}
+
+/// The floats and the words of so many records.
+fn read_records<'a>(
+    fields: &mut impl Iterator<Item = &'a str>,
+    count: usize,
+    floats: usize,
+    words: usize,
+) -> (Vec<u32>, Vec<u32>) {
+    let read = fields.take(count).map(|field| match field {
+        EMPTY => (vec![0; floats], vec![0; words]),
+        record => parted(record, floats),
+    });
+    let (all_floats, all_words): (Vec<Vec<u32>>, Vec<Vec<u32>>) = read.unzip();
+    assert_eq!(all_words.len(), count, "fields are missing");
+    (all_floats.concat(), all_words.concat())
 }
 
 fn word(number: u32) -> String {
@@ -111,9 +160,9 @@ fn parted(field: &str, floats: usize) -> (Vec<u32>, Vec<u32>) {
 /// What a question changes about a call; `Display` writes it as a field, and `from_str` reads that.
 #[derive(Clone, Debug, PartialEq)]
 pub enum Edit {
-    /// h, t (dt), x or y (gravity) = bits.
+    /// h, t (dt), x or y (gravity), b (boundary handling) or d (locks) = bits.
     Setting(char, u32),
-    /// r (regions) or p (particles) = a count, whatever the lists have.
+    /// r (regions), p (particles) or c (colliders) = a count, whatever the lists have.
     Count(char, u64),
     /// An entry of a list: its letter, place, and bits.
     Entry(char, usize, u64),
@@ -123,7 +172,8 @@ pub enum Edit {
     Copies(usize),
 }
 
-/// A list of a call, by its letter: i ids, s starts and counts, f and w floats and words of particles, m and k of nodes.
+/// A list of a call, by its letter: i ids, s starts and counts, f and w floats and words of particles, m and k of nodes, n
+/// frictions, j and q floats and words of projections.
 enum List<'a> {
     Wide(&'a mut Vec<u64>),
     Narrow(&'a mut Vec<u32>),
@@ -137,6 +187,9 @@ fn list(call: &mut Call, letter: char) -> List<'_> {
         'w' => List::Narrow(&mut call.particle_words),
         'm' => List::Narrow(&mut call.node_floats),
         'k' => List::Narrow(&mut call.node_words),
+        'n' => List::Narrow(&mut call.boundary.frictions),
+        'j' => List::Narrow(&mut call.boundary.points),
+        'q' => List::Narrow(&mut call.boundary.insides),
         _ => panic!("no list {}", letter),
     }
 }
@@ -144,9 +197,10 @@ fn list(call: &mut Call, letter: char) -> List<'_> {
 impl Edit {
     fn apply(&self, call: &mut Call) {
         match *self {
-            Edit::Setting(letter, bits) => *setting(call, letter) = f32::from_bits(bits),
+            Edit::Setting(letter, bits) => set(call, letter, bits),
             Edit::Count('r', count) => call.regions = count,
-            Edit::Count(_, count) => call.particles = count,
+            Edit::Count('p', count) => call.particles = count,
+            Edit::Count(_, count) => call.boundary.colliders = count,
             Edit::Entry(letter, place, bits) => match list(call, letter) {
                 List::Wide(list) => list[place] = bits,
                 List::Narrow(list) => list[place] = bits as u32,
@@ -160,12 +214,14 @@ impl Edit {
     }
 }
 
-fn setting(call: &mut Call, letter: char) -> &mut f32 {
+fn set(call: &mut Call, letter: char, bits: u32) {
     match letter {
-        'h' => &mut call.cell_width,
-        't' => &mut call.dt,
-        'x' => &mut call.gravity[0],
-        'y' => &mut call.gravity[1],
+        'h' => call.cell_width = f32::from_bits(bits),
+        't' => call.dt = f32::from_bits(bits),
+        'x' => call.gravity[0] = f32::from_bits(bits),
+        'y' => call.gravity[1] = f32::from_bits(bits),
+        'b' => call.boundary.handling = bits,
+        'd' => call.boundary.locks = bits,
         _ => panic!("no setting {}", letter),
     }
 }
@@ -200,8 +256,8 @@ impl FromStr for Edit {
         let rest = &field[1..];
         Ok(match (letter, rest.split_once('='), rest.strip_prefix('#')) {
             ('*', ..) => Edit::Copies(decimal(rest)),
-            ('r' | 'p', Some(("", count)), _) => Edit::Count(letter, decimal(count)),
-            ('h' | 't' | 'x' | 'y', Some(("", setting)), _) => Edit::Setting(letter, bits(setting)),
+            ('r' | 'p' | 'c', Some(("", count)), _) => Edit::Count(letter, decimal(count)),
+            ('h' | 't' | 'x' | 'y' | 'b' | 'd', Some(("", setting)), _) => Edit::Setting(letter, bits(setting)),
             (_, Some((place, entry)), _) => Edit::Entry(letter, decimal(place), u64::from_str_radix(entry, 16).map_err(drop)?),
             (_, None, Some(length)) => Edit::Length(letter, decimal(length)),
             _ => return Err(()),
@@ -212,7 +268,7 @@ impl FromStr for Edit {
 #[cfg(test)]
 mod tests {
     use super::*;
-    use crate::random::Style;
+    use crate::random::{bounded, Style};
     use crate::Rng;
 
     #[test]
@@ -223,6 +279,30 @@ mod tests {
             let fields = call.fields();
             assert_eq!(Call::from_fields(&fields.iter().map(String::as_str).collect::<Vec<_>>()), call);
         }
+    }
+
+    #[test]
+    fn a_boundary_is_read_again_behind_its_call() {
+        let mut rng = Rng::new(6);
+        for colliders in [0, 1, 3, 16] {
+            let call = bounded(Style::any(&mut rng).sample(&mut rng), colliders, &mut rng);
+            let fields = call.bounded_fields();
+            assert_eq!(Call::from_bounded_fields(&fields.iter().map(String::as_str).collect::<Vec<_>>()), call);
+        }
+    }
+
+    #[test]
+    fn edits_of_a_boundary_change_what_they_name() {
+        let call = Call::on(vec![0]).bounded(2, &[0.5, 1.0]);
+        let edits = ["b=00000004", "d=00000003", "c=9", "n1=7F800000", "j63=80000000", "q31=1", "n#3", "j#65", "q#0", "m3=2"];
+        let read: Vec<Edit> = edits.iter().map(|edit| edit.parse().unwrap()).collect();
+        assert!(read.iter().map(Edit::to_string).eq(edits));
+        assert_eq!(call.edited(&read[5..6]).boundary.insides[31], 1);
+        let edited = call.edited(&read);
+        let Boundary { handling, locks, colliders, frictions, points, insides } = edited.boundary;
+        assert_eq!((handling, locks, colliders, insides.len()), (4, 3, 9, 0));
+        assert_eq!((frictions, points[63], points.len()), (vec![0x3f00_0000, 0x7f80_0000, 0], 0x8000_0000, 65));
+        assert_eq!(edited.node_floats[3], 2);
     }
 
     #[test]
@@ -245,6 +325,17 @@ mod tests {
         assert_eq!((call.particles, &call.ranges[..4]), (5, &[0, 5, 5, 0][..]));
         assert_eq!((call.particle_floats.len(), call.particle_words.len()), (130, 20));
         assert_eq!(call.position(4), call.position(0));
+    }
+
+    #[test]
+    fn an_answer_of_all_nodes_has_what_moved() {
+        let mut call = Call::on(vec![0]);
+        call.node_floats[0] = 0xff80_0001;
+        let (mut floats, mut words) = (call.node_floats.clone(), call.node_words.clone());
+        (floats[7], words[2]) = (0xffff_ffff, 1);
+        let answered = call.all_answered((&floats, &words));
+        assert_eq!(answered[..2], ["=".to_string(), format!("{:0<64}", "7FC00000")]);
+        assert_eq!(answered[2..4], [format!("{:0>64}", 1), "=".to_string()]);
     }
 
     #[test]

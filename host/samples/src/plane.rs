@@ -36,6 +36,17 @@ pub fn number_in_region([x, y]: [u32; 2]) -> usize {
     (4 * (y % 4) + x % 4) as usize
 }
 
+/// A region's cell by its number: what `region` and `number_in_region` are taken from.
+pub fn cell_of(region: u64, number: usize) -> [u32; 2] {
+    let gathered = |id: u64| (2..28).map(|k| ((id >> (12 + 2 * (k - 2)) & 1) as u32) << k).sum::<u32>();
+    [gathered(region) + number as u32 % 4, gathered(region >> 1) + number as u32 / 4]
+}
+
+/// The centre of a cell.
+pub fn centre(cell: [u32; 2], cell_width: f32) -> [f32; 2] {
+    cell.map(|part| part as f32 * cell_width)
+}
+
 /// A region's colour.
 pub fn colour(region: u64) -> u64 {
     region >> 12 & 3
@@ -53,6 +64,14 @@ mod tests {
         assert_eq!(region([0, 4]), 8192);
         assert_eq!(region([1 << 28, 0]), 0);
         assert_eq!(number_in_region([6, 9]), 6);
+    }
+
+    #[test]
+    fn a_cell_is_found_again() {
+        for cell in [[5, 6], [0, 3], [65535, 40000], [(1 << 28) - 1, (1 << 27) + 2]] {
+            assert_eq!(cell_of(region(cell), number_in_region(cell)), cell);
+        }
+        assert_eq!(centre([5, 16777217], 0.5), [2.5, 8388608.0]);
     }
 
     #[test]

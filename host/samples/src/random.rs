@@ -1,6 +1,8 @@
-//! Calls of a scatter that no rule refuses.
+//! Calls of a scatter and of an update that no rule refuses.
 
-use crate::{plane, Call, Rng, NODE_FLOATS, PARTICLE_FLOATS, PARTICLE_WORDS};
+use crate::{
+    plane, Boundary, Call, Rng, FRICTION, FRICTION_Z_UP, NODE_FLOATS, NONE, PARTICLE_FLOATS, PARTICLE_WORDS, REGION_NODES, STICK,
+};
 use std::collections::BTreeMap;
 
 /// What a sample's numbers are like, and with them what its results are like.
@@ -72,6 +74,46 @@ pub fn order(call: &Call, rng: &mut Rng) -> Vec<u64> {
     places
 }
 
+const HANDLINGS: [u32; 6] = [FRICTION, FRICTION, FRICTION, FRICTION_Z_UP, STICK, NONE];
+
+const FRICTIONS: [f32; 12] = [0.5, 0.3, 1.0, 0.05, 2.0, 0.0, -0.0, -1.0, 1e30, 1e-45, f32::MAX, f32::MIN];
+
+/// The call with so many colliders, whose points lie about the cells' centres.
+pub fn bounded(call: Call, colliders: usize, rng: &mut Rng) -> Call {
+    let projections = call.ids.len() * REGION_NODES * colliders;
+    let cells = (0..projections).map(|place| place / colliders).map(|cell| (cell / REGION_NODES, cell % REGION_NODES));
+    let centres: Vec<[f32; 2]> =
+        cells.map(|(region, number)| plane::centre(plane::cell_of(call.ids[region], number), call.cell_width)).collect();
+    let boundary = Boundary {
+        handling: rng.one_of(&HANDLINGS),
+        locks: rng.one_of(&[0, 0, 0, 0, 1, 2, 3]),
+        colliders: colliders as u64,
+        frictions: (0..colliders).map(|_| rng.one_of(&FRICTIONS).to_bits()).collect(),
+        points: centres.iter().flat_map(|centre| point_about(*centre, &call, rng)).map(f32::to_bits).collect(),
+        insides: (0..projections).map(|_| rng.one_of(&[0, 0, 1])).collect(),
+    };
+    Call { boundary, ..call }
+}
+
+/// A point at the centre, so near to it that there is no normal, within a cell's width, about that width and beyond it by what is
+/// covered in dt or by more; or anywhere.
+fn point_about(centre: [f32; 2], call: &Call, rng: &mut Rng) -> [f32; 2] {
+    let width = call.cell_width;
+    let distance = match rng.below(8) {
+        0 => 0.0,
+        1 => rng.between(0.5, 1.5) * 1.0e-5,
+        2 | 3 => rng.between(0.0, 1.0) * width,
+        4 => width * (1.0 + rng.between(-4.0, 4.0) * f32::EPSILON),
+        5 => width + rng.between(0.0, 2.0) * call.dt.min(1e30),
+        6 => rng.between(1.0, 4.0) * width,
+        _ => return [0; 2].map(|_| with_exponent(0, 254, rng)),
+    };
+    let way = [rng.between(-1.0, 1.0), rng.between(-1.0, 1.0)];
+    let [x, y] = rng.one_of(&[way, way, [1.0, 0.0], [0.0, -1.0]]);
+    let length = (x * x + y * y).sqrt().max(0.001);
+    [centre[0] + x / length * distance, centre[1] + y / length * distance]
+}
+
 impl Style {
     /// Everyday particles of one window and empty nodes.
     pub fn plain(cell_width: f32, corner: [u32; 2], window: [u32; 2], particles: usize) -> Style {
@@ -107,6 +149,15 @@ impl Style {
             regions.entry(plane::region([0; 2].map(|_| any_corner(rng)))).or_default();
         }
         self.settled(call(regions), rng)
+    }
+
+    /// So many calls on one list, which has all the regions that any of them needs.
+    pub fn samples_on_one_list(&self, count: usize, rng: &mut Rng) -> Vec<Call> {
+        let calls: Vec<Call> = (0..count).map(|_| self.sample(rng)).collect();
+        let mut ids: Vec<u64> = calls.iter().flat_map(|call| call.ids.iter().copied()).collect();
+        ids.sort_unstable();
+        ids.dedup();
+        calls.iter().map(|call| call.on_list(&ids)).collect()
     }
 
     /// The call with settings and nodes of this style.
