@@ -16,6 +16,7 @@ const FILES: &[(&str, Option<&str>)] = &[
     ("src/dynamics/particle.rs", None),
     ("src/dynamics/particle_model.rs", None),
     ("src/dynamics/particle_set.rs", None),
+    ("src/dynamics/solver/grid_update.rs", None),
     ("src/dynamics/solver/particle_to_grid.rs", None),
     ("src/geometry/mod.rs", Some("geometry.rs")),
     ("src/geometry/sp_grid.rs", Some("sp_grid.rs")),

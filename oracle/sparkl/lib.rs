@@ -13,8 +13,14 @@ extern crate self as rayon;
 
 #[macro_use]
 mod stand_ins;
+#[cfg(feature = "dim2")]
+pub mod colliders;
 pub mod math;
 
+#[cfg(feature = "dim2")]
+pub use colliders::query;
+#[cfg(feature = "dim2")]
+pub use math::{distance, Unit};
 pub use math::{zero, SMatrix};
 #[cfg(feature = "dim2")]
 pub(crate) use stand_ins::flags as bitflags;
@@ -44,7 +50,7 @@ pub mod utils {
 }
 
 #[cfg(feature = "dim2")]
-pub mod scatter;
+pub mod scene;
 
 /// Every handed-over file of this build: its path, and its bytes as they stand in the very copy that is compiled.
 pub fn sources() -> Vec<(&'static str, &'static [u8])> {

@@ -1,7 +1,9 @@
 //! For `parry::math` and the parts of nalgebra behind it: vectors, points and matrices, each operation of every component by
 //! itself and once rounded, sums of products from left to right.
 
-use std::ops::{Add, AddAssign, Div, Index, Mul, Neg, Sub};
+#[cfg(feature = "dim2")]
+use std::ops::Deref;
+use std::ops::{Add, AddAssign, Div, Index, Mul, Neg, Sub, SubAssign};
 
 pub type Kernel = crate::kernel::QuadraticKernel;
 pub type Real = f32;
@@ -89,6 +91,65 @@ impl Vector<Real> {
     pub fn zeros() -> Self {
         zero()
     }
+
+    pub fn fill(&mut self, part: Real) {
+        *self = Vector::repeat(part);
+    }
+}
+
+/// Sums of two terms, whose order cannot matter; a norm is the root of such a sum.
+#[cfg(feature = "dim2")]
+impl Vector<Real> {
+    pub fn dot(&self, other: &Self) -> Real {
+        self.x * other.x + self.y * other.y
+    }
+
+    pub fn norm(&self) -> Real {
+        self.dot(self).sqrt()
+    }
+}
+
+/// For `nalgebra::distance`, which a function names that nothing here asks.
+#[cfg(feature = "dim2")]
+pub fn distance(one: &Point<Real>, other: &Point<Real>) -> Real {
+    (*other - *one).norm()
+}
+
+/// For `nalgebra::Unit`: a vector divided by its norm.
+#[cfg(feature = "dim2")]
+#[derive(Copy, Clone)]
+pub struct Unit<V>(V);
+
+#[cfg(feature = "dim2")]
+impl Unit<Vector<Real>> {
+    /// nalgebra's rule: squares are compared, and the norm is the root of the square that was compared.
+    pub fn try_new_and_get(vector: Vector<Real>, min_norm: Real) -> Option<(Self, Real)> {
+        let square = vector.dot(&vector);
+        let norm = square.sqrt();
+        (square > min_norm * min_norm).then(|| (Unit(vector / norm), norm))
+    }
+
+    pub fn into_inner(self) -> Vector<Real> {
+        self.0
+    }
+}
+
+#[cfg(feature = "dim2")]
+impl Deref for Unit<Vector<Real>> {
+    type Target = Vector<Real>;
+
+    fn deref(&self) -> &Vector<Real> {
+        &self.0
+    }
+}
+
+#[cfg(feature = "dim2")]
+impl Neg for Unit<Vector<Real>> {
+    type Output = Self;
+
+    fn neg(self) -> Self {
+        Unit(-self.0)
+    }
 }
 
 #[cfg(feature = "dim2")]
@@ -172,6 +233,12 @@ impl Sub for Vector<Real> {
 
     fn sub(self, other: Self) -> Self {
         self.zip_map(other, |one, other| one - other)
+    }
+}
+
+impl SubAssign for Vector<Real> {
+    fn sub_assign(&mut self, other: Self) {
+        *self = *self - other;
     }
 }
 

@@ -149,9 +149,29 @@ pub mod data {
     }
 }
 
-/// For `sparkl2d_core`: what models say to a graphics card or to whoever chooses a substep's length, which nothing here asks, so
-/// that there are no values of it.
+/// For `sparkl2d_core`: an update's settings; and what models say to a graphics card or to whoever chooses a substep's length, which
+/// nothing here asks, so that there are no values of it.
 pub mod core {
+    #[cfg(feature = "dim2")]
+    pub mod dynamics {
+        pub mod solver {
+            #[derive(Copy, Clone, Debug, PartialEq)]
+            pub enum BoundaryHandling {
+                None,
+                Stick,
+                Friction,
+                FrictionZUp,
+            }
+
+            crate::bitflags! {
+                pub struct SimulationDofs: u32 {
+                    const LOCK_X = 1 << 0;
+                    const LOCK_Y = 1 << 1;
+                }
+            }
+        }
+    }
+
     pub mod prelude {
         pub enum ActiveTimestepBounds {}
         pub enum CoreConstitutiveModel {}

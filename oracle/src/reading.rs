@@ -1,6 +1,6 @@
 //! What the handed-over Rust has no function for, as documents 01 and 02 say it, and nothing that is taken from the port.
 
-use samples::{plane, Call};
+use samples::{plane, Boundary, Call};
 
 /// Document 02, request 09: the lower part of a list has the floor of half of it, the upper part is kept if its first id is at
 /// most the sought one, and of one entry or none nothing is left to halve.
@@ -66,19 +66,30 @@ pub enum Which<'a> {
     Order(&'a [u64]),
 }
 
+/// The index of a record that breaks a rule, with the rule's number.
+fn refused(number: u32, index: Option<usize>) -> Option<Refusal> {
+    index.map(|index| Refusal { number, index })
+}
+
+/// The index 0 where something does not hold that is no record's.
+fn unless(holds: bool) -> Option<usize> {
+    (!holds).then_some(0)
+}
+
 /// What the table says of a call of scatter: 1 to 10.
 pub fn scatter(which: &Which, call: &Call) -> Option<Refusal> {
-    let refused = |number: u32, index: Option<usize>| index.map(|index| Refusal { number, index });
-    let unless = |holds: bool| (!holds).then_some(0);
     refused(1, unless(scatter_counts(which, call)))
         .or_else(|| refused(2, unless(call.regions <= MOST_REGIONS && call.particles <= MOST_PARTICLES)))
-        .or_else(|| refused(3, unless(settings_are_good(call))))
+        .or_else(|| refused(3, unless(width_and_dt_are_good(call) && gravity_is_good(call))))
         .or_else(|| refused(4, bad_place(which, &call.ids)))
-        .or_else(|| refused(4, first_particle_with(&call.particle_words, PARTICLE_WORDS, |word| word > 1)))
-        .or_else(|| {
-            refused(5, first_particle_with(&call.particle_floats, PARTICLE_FLOATS, |bits| !f32::from_bits(bits).is_finite()))
-        })
-        .or_else(|| refused(6, first_bad_region(&call.ids)))
+        .or_else(|| refused(4, first_record_with(&call.particle_words, PARTICLE_WORDS, is_no_flag)))
+        .or_else(|| refused(5, first_record_with(&call.particle_floats, PARTICLE_FLOATS, is_not_finite)))
+        .or_else(|| ids_ranges_and_positions(call))
+}
+
+/// 6 to 10.
+fn ids_ranges_and_positions(call: &Call) -> Option<Refusal> {
+    refused(6, first_bad_region(&call.ids))
         .or_else(|| refused(7, first_bad_range(call)))
         .or_else(|| refused(8, first_cells(call).position(|cell| cell.is_none())))
         .or_else(|| {
@@ -103,9 +114,21 @@ fn scatter_counts(which: &Which, call: &Call) -> bool {
     order_counts && lengths.iter().all(|(length, count, each)| *length as u128 == u128::from(*count) * u128::from(*each))
 }
 
-fn settings_are_good(call: &Call) -> bool {
+fn width_and_dt_are_good(call: &Call) -> bool {
     let range = 1.0 / 1048576.0..=1048576.0;
-    range.contains(&call.cell_width) && call.dt > 0.0 && call.dt.is_finite() && call.gravity.iter().all(|part| part.is_finite())
+    range.contains(&call.cell_width) && call.dt > 0.0 && call.dt.is_finite()
+}
+
+fn gravity_is_good(call: &Call) -> bool {
+    call.gravity.iter().all(|part| part.is_finite())
+}
+
+fn is_no_flag(word: u32) -> bool {
+    word > 1
+}
+
+fn is_not_finite(bits: u32) -> bool {
+    !f32::from_bits(bits).is_finite()
 }
 
 /// A place that is no region's; of an order, the index of the first such entry, or that names a region again, or that goes back
@@ -124,8 +147,8 @@ fn bad_place(which: &Which, ids: &[u64]) -> Option<usize> {
     }
 }
 
-/// The first particle with such a word among its own.
-fn first_particle_with(words: &[u32], each: u64, is_bad: impl Fn(u32) -> bool) -> Option<usize> {
+/// The first record with such a word among its own.
+fn first_record_with(words: &[u32], each: u64, is_bad: impl Fn(u32) -> bool) -> Option<usize> {
     words.iter().position(|word| is_bad(*word)).map(|place| place / each as usize)
 }
 
@@ -154,6 +177,62 @@ fn own_regions(call: &Call) -> impl Iterator<Item = u64> + '_ {
 
 fn is_listed(cell: Option<[u32; 2]>, ids: &[u64]) -> bool {
     cell.map_or(false, |cell| plane::regions(cell).iter().all(|region| ids.contains(region)))
+}
+
+pub const MOST_COLLIDERS: u64 = 16;
+pub const PROJECTION_FLOATS: u64 = samples::PROJECTION_FLOATS as u64;
+
+/// The last code of boundary handling, and both axes locked.
+const LAST_HANDLING: u32 = 3;
+const ALL_LOCKS: u32 = 3;
+
+/// What the table says of a call of update: 1 to 6.
+pub fn update(call: &Call) -> Option<Refusal> {
+    let Boundary { colliders, frictions, points, insides, .. } = &call.boundary;
+    refused(1, unless(update_counts(call)))
+        .or_else(|| refused(2, unless(call.regions <= MOST_REGIONS && *colliders <= MOST_COLLIDERS)))
+        .or_else(|| refused(3, unless(width_and_dt_are_good(call))))
+        .or_else(|| refused(4, unless(codes_are_good(&call.boundary))))
+        .or_else(|| refused(4, first_record_with(insides, 1, is_no_flag)))
+        .or_else(|| refused(5, first_record_with(frictions, 1, is_not_finite)))
+        .or_else(|| refused(5, first_record_with(points, PROJECTION_FLOATS, is_not_finite)))
+        .or_else(|| refused(6, first_bad_region(&call.ids)))
+}
+
+fn codes_are_good(boundary: &Boundary) -> bool {
+    boundary.handling <= LAST_HANDLING && boundary.locks <= ALL_LOCKS
+}
+
+/// Projections count 16 for each region and collider. A product beyond 128 bits is no list's length.
+fn update_counts(call: &Call) -> bool {
+    let Boundary { colliders, frictions, points, insides, .. } = &call.boundary;
+    let is = |length: usize, factors: &[u64]| {
+        let product = factors.iter().try_fold(1u128, |product, factor| product.checked_mul(u128::from(*factor)));
+        product == Some(length as u128)
+    };
+    is(call.ids.len(), &[call.regions])
+        && is(frictions.len(), &[*colliders])
+        && is(points.len(), &[PROJECTION_FLOATS, REGION_NODES, call.regions, *colliders])
+        && is(insides.len(), &[REGION_NODES, call.regions, *colliders])
+        && is(call.node_floats.len(), &[REGION_NODES * NODE_FLOATS, call.regions])
+        && is(call.node_words.len(), &[REGION_NODES * NODE_WORDS, call.regions])
+}
+
+/// What the table says of clear, scatter and update in one call, which is given all that the three are: 1 to 10 in their order, and in
+/// 4 and 5 its own settings, then particles, then colliders, then projections.
+pub fn clear_scatter_update(call: &Call) -> Option<Refusal> {
+    let Boundary { colliders, frictions, points, insides, .. } = &call.boundary;
+    let few_enough = call.regions <= MOST_REGIONS && call.particles <= MOST_PARTICLES && *colliders <= MOST_COLLIDERS;
+    refused(1, unless(scatter_counts(&Which::All, call) && update_counts(call)))
+        .or_else(|| refused(2, unless(few_enough)))
+        .or_else(|| refused(3, unless(width_and_dt_are_good(call) && gravity_is_good(call))))
+        .or_else(|| refused(4, unless(codes_are_good(&call.boundary))))
+        .or_else(|| refused(4, first_record_with(&call.particle_words, PARTICLE_WORDS, is_no_flag)))
+        .or_else(|| refused(4, first_record_with(insides, 1, is_no_flag)))
+        .or_else(|| refused(5, first_record_with(&call.particle_floats, PARTICLE_FLOATS, is_not_finite)))
+        .or_else(|| refused(5, first_record_with(frictions, 1, is_not_finite)))
+        .or_else(|| refused(5, first_record_with(points, PROJECTION_FLOATS, is_not_finite)))
+        .or_else(|| ids_ranges_and_positions(call))
 }
 
 #[cfg(test)]
@@ -193,7 +272,7 @@ mod tests {
     }
 
     fn refused(number: u32, index: usize) -> Option<Refusal> {
-        Some(Refusal { number, index })
+        super::refused(number, Some(index))
     }
 
     #[test]
@@ -310,6 +389,71 @@ mod tests {
         assert_eq!(of(&Which::All, &["f26=40E00000"]), refused(10, 1));
         assert_eq!(of(&Which::All, &["f0=40400000"]), None);
         assert_eq!(of(&Which::All, &["f1=40400000", "f0=40400000"]), refused(10, 0));
+    }
+
+    /// What the table says of an update of the three, with two colliders and these changes, and of the whole sequence.
+    fn of_both(edits: &[&str]) -> [Option<Refusal>; 2] {
+        let edits: Vec<_> = edits.iter().map(|edit| edit.parse().unwrap()).collect();
+        let call = three().bounded(2, &[0.5, 1.0]).edited(&edits);
+        [update(&call), clear_scatter_update(&call)]
+    }
+
+    #[test]
+    fn updates_that_are_good() {
+        for edits in [&[][..], &["b=3", "d=3"], &["b=0", "n0=FF7FFFFF"], &["m3=7FC00000", "k4=7"], &["q95=1", "j191=80000000"]] {
+            assert_eq!(of_both(edits), [None, None], "{:?}", edits);
+        }
+        assert_eq!(of_both(&["x=7FC00000"]), [None, refused(3, 0)]);
+        assert_eq!(update(&Call::on(vec![])), None);
+        assert_eq!(update(&Call::on(vec![]).bounded(1, &[0.0; 16])), None);
+        assert_eq!(update(&Call::on(vec![4096])), None);
+    }
+
+    #[test]
+    fn of_an_update_lengths_come_first_and_then_limits() {
+        for edit in ["i#2", "n#1", "n#3", "j#191", "j#193", "q#95", "m#335", "k#49", "r=2", "c=1", "c=3", "c=9223372036854775808"]
+        {
+            assert_eq!(update(&three().bounded(2, &[0.5, 1.0]).edited(&[edit.parse().unwrap()])), refused(1, 0), "{}", edit);
+        }
+        let beyond: Vec<_> = ["r=18446744073709551615", "c=18446744073709551615"].map(|edit| edit.parse().unwrap()).to_vec();
+        assert_eq!(update(&three().bounded(2, &[0.5]).edited(&beyond)), refused(1, 0));
+        assert_eq!(update(&three().bounded(2, &[0.5; 16])), None);
+        assert_eq!(update(&three().bounded(9, &[f32::NAN; 17])), refused(2, 0));
+        assert_eq!(update(&Call::on(vec![]).bounded(2, &[0.5; 17])), refused(2, 0));
+        assert_eq!(update(&Call { dt: 0.0, ..Call::on(vec![7; 513]) }), refused(2, 0));
+    }
+
+    #[test]
+    fn of_an_update_settings_come_before_flags_flags_before_numbers_and_these_before_ids() {
+        assert_eq!(of_both(&["h=357FFFFF", "b=4"]), [refused(3, 0), refused(3, 0)]);
+        assert_eq!(of_both(&["t=80000000", "d=4"]), [refused(3, 0), refused(3, 0)]);
+        for edit in ["b=4", "d=4", "b=FFFFFFFF", "d=80000000"] {
+            assert_eq!(of_both(&[edit, "q0=2", "i1=1"])[0], refused(4, 0), "{}", edit);
+        }
+        assert_eq!(of_both(&["q17=2", "n1=7F800000", "j0=7F800000"])[0], refused(4, 17));
+        assert_eq!(of_both(&["n1=7F800000", "j0=7F800000", "i1=1"])[0], refused(5, 1));
+        assert_eq!(of_both(&["j187=FFC00000", "j190=7F800000", "i1=1"])[0], refused(5, 93));
+        assert_eq!(of_both(&["i2=1000"])[0], refused(6, 2));
+    }
+
+    #[test]
+    fn of_the_sequence_numbers_come_in_their_order_whoever_they_belong_to() {
+        let of = |edits: &[&str]| {
+            let [_, sequence] = of_both(edits);
+            sequence
+        };
+        assert_eq!(of(&["j#0", "i1=0"]), refused(1, 0));
+        assert_eq!(of(&["f#1", "b=4"]), refused(1, 0));
+        assert_eq!(of(&["y=7FC00000", "b=4"]), refused(3, 0));
+        assert_eq!(of(&["d=4", "w5=2", "q2=2"]), refused(4, 0));
+        assert_eq!(of(&["w5=2", "q2=2", "f0=7FC00000"]), refused(4, 1));
+        assert_eq!(of(&["q2=2", "f0=7FC00000"]), refused(4, 2));
+        assert_eq!(of(&["f60=7FC00000", "n0=7F800000", "j0=7F800000"]), refused(5, 2));
+        assert_eq!(of(&["n1=7F800000", "j0=7F800000", "i1=0"]), refused(5, 1));
+        assert_eq!(of(&["j7=7F800000", "i1=0", "s5=0"]), refused(5, 3));
+        assert_eq!(of(&["i1=0", "s5=0"]), refused(6, 1));
+        assert_eq!(of(&["s5=0", "f0=0"]), refused(7, 3));
+        assert_eq!(of(&["f1=40400000", "f0=40400000"]), refused(10, 0));
     }
 
     #[test]

@@ -2,12 +2,12 @@
 
 use crate::archive::{self, Lists, Which};
 use mangerknot_sys::Refusal;
-use samples::random::{order, Style};
+use samples::random::{bounded, order, Style};
 use samples::{Call, Rng};
-use sparkl2d::scatter::Scene;
+use sparkl2d::scene::Scene;
 use sparkl2d::MmapMut;
 
-/// Compares so many calls in each of three ways; says whether nothing differs.
+/// Compares so many calls in each of five ways; says whether nothing differs.
 pub fn run(seed: u64, count: u64) -> bool {
     println!("machine: {}", crate::machine());
     println!("seed: {}", seed);
@@ -17,19 +17,22 @@ pub fn run(seed: u64, count: u64) -> bool {
         let call = Style::any(&mut rng).sample(&mut rng);
         let region = rng.below(call.regions) as usize;
         let order = order(&call, &mut rng);
-        for which in [Which::All, Which::Region(region), Which::Order(&order)] {
+        let colliders = rng.one_of(&[0, 1, 1, 2, 4, 16]);
+        let call = bounded(call, colliders, &mut rng);
+        for which in [Which::All, Which::Region(region), Which::Order(&order), Which::Update, Which::Sequence] {
             tally.take(&which, &call, place);
         }
     }
-    println!("calls: {}, each of all regions, of one and in an order; {} differ", count, tally.differ);
-    println!("nodes hit: {}, of which {} have a NaN or an infinity", tally.hit, tally.strange);
+    println!("calls: {}, each of a scatter of all regions, of one and in an order, of an update and of the sequence", count);
+    println!("differ: {}", tally.differ);
+    println!("nodes hit or moved: {}, of which {} have a NaN or an infinity", tally.written, tally.strange);
     tally.differ == 0
 }
 
 #[derive(Default)]
 struct Tally {
     differ: u64,
-    hit: u64,
+    written: u64,
     strange: u64,
 }
 
@@ -42,9 +45,9 @@ impl Tally {
                 say_difference(call, place, &port, &rust);
             }
         }
-        let hit = rust.iter().filter(|node| *node != "=");
-        self.hit += hit.clone().count() as u64;
-        self.strange += hit.filter(|node| is_strange(node)).count() as u64;
+        let written = rust.iter().filter(|node| *node != "=");
+        self.written += written.clone().count() as u64;
+        self.strange += written.filter(|node| is_strange(node)).count() as u64;
     }
 }
 
@@ -56,16 +59,8 @@ fn is_strange(node: &str) -> bool {
 
 fn ports(which: &Which, call: &Call) -> Result<Vec<String>, Refusal> {
     let (mut node_floats, mut node_words) = (call.node_floats.clone(), call.node_words.clone());
-    let lists = Lists {
-        ids: &call.ids,
-        ranges: &call.ranges,
-        particle_floats: &call.particle_floats,
-        particle_words: &call.particle_words,
-        node_floats: &mut node_floats,
-        node_words: &mut node_words,
-    };
-    match archive::scatter(which, call, lists) {
-        Refusal { number: 0, .. } => Ok(call.answered((&node_floats, &node_words), &call.hits(only(which)))),
+    match archive::answer(which, call, Lists::of(call, &mut node_floats, &mut node_words)) {
+        Refusal { number: 0, .. } => Ok(written(which, call, (&node_floats, &node_words))),
         refusal => Err(refusal),
     }
 }
@@ -73,10 +68,28 @@ fn ports(which: &Which, call: &Call) -> Result<Vec<String>, Refusal> {
 /// The Rust has no order of its own to be given: the nodes of any order by colours have to be those of its scatter.
 fn rusts(which: &Which, call: &Call) -> Vec<String> {
     let mut scene = Scene::new(call, MmapMut::sparse());
-    only(which).into_iter().for_each(|place| scene.only(place));
-    scene.scatter();
+    match which {
+        Which::Update => scene.update(),
+        Which::Sequence => {
+            scene.clear();
+            scene.scatter();
+            scene.update();
+        }
+        _ => {
+            only(which).into_iter().for_each(|place| scene.only(place));
+            scene.scatter();
+        }
+    }
     let (floats, words) = scene.nodes();
-    call.answered((&floats, &words), &scene.hits())
+    written(which, call, (&floats, &words))
+}
+
+/// The nodes afterwards, as an answer has them.
+fn written(which: &Which, call: &Call, nodes: (&[u32], &[u32])) -> Vec<String> {
+    match which {
+        Which::Update | Which::Sequence => call.all_answered(nodes),
+        _ => call.answered(nodes, &call.hits(only(which))),
+    }
 }
 
 fn only(which: &Which) -> Option<usize> {
@@ -88,7 +101,7 @@ fn only(which: &Which) -> Option<usize> {
 
 /// The first difference, with the call in the fields of a line of vectors.
 fn say_difference(call: &Call, place: u64, port: &Result<Vec<String>, Refusal>, rust: &[String]) {
-    println!("call {} differs: {}", place, call.fields().join("\t"));
+    println!("call {} differs: {}", place, call.bounded_fields().join("\t"));
     match port {
         Err(refusal) => println!("refused: {:?}", refusal),
         Ok(port) => {
@@ -109,6 +122,21 @@ mod tests {
         assert_ne!(rusts(&Which::All, &call), rusts(&Which::All, &other));
         assert_eq!(ports(&Which::All, &call), Ok(rusts(&Which::All, &call)));
         assert_eq!(ports(&Which::Region(9), &call), Err(Refusal { number: 4, index: 0 }));
+    }
+
+    #[test]
+    fn what_is_updated_is_told_apart() {
+        let mut rng = Rng::new(1);
+        let call = bounded(Style::plain(1.0, [0, 0], [3, 3], 9).sample(&mut rng), 3, &mut rng);
+        for which in [Which::Update, Which::Sequence] {
+            assert_eq!(ports(&which, &call), Ok(rusts(&which, &call)));
+        }
+        assert_ne!(rusts(&Which::Sequence, &call), rusts(&Which::All, &call));
+        let mut stuck = call.clone();
+        (stuck.boundary.handling, stuck.boundary.locks) = (samples::STICK, 1);
+        assert_ne!(rusts(&Which::Sequence, &call), rusts(&Which::Sequence, &stuck));
+        stuck.boundary.handling = 4;
+        assert_eq!(ports(&Which::Update, &stuck), Err(Refusal { number: 4, index: 0 }));
     }
 
     #[test]

@@ -1,9 +1,10 @@
-//! How long clear and scatter take on as many particles and regions as there may be, here and in the handed-over Rust.
+//! How long clear, scatter and update take on as many particles and regions as there may be, here and in the handed-over Rust.
 
 use crate::archive::{self, Lists, Which};
 use mangerknot_sys::{mk_clear2, Refusal};
-use samples::{plane, Call, Rng, PARTICLE_FLOATS, PARTICLE_WORDS};
-use sparkl2d::scatter::Scene;
+use samples::random::bounded;
+use samples::{plane, Call, Rng, FRICTION, PARTICLE_FLOATS, PARTICLE_WORDS};
+use sparkl2d::scene::Scene;
 use sparkl2d::MmapMut;
 use std::time::{Duration, Instant};
 
@@ -11,12 +12,13 @@ use std::time::{Duration, Instant};
 const COLUMNS: u32 = 32;
 const ROWS: u32 = 16;
 const PARTICLES: usize = 65_536;
+const COLLIDERS: usize = 4;
 
 /// Times each side so often, in turn; says whether both leave the same nodes.
 pub fn run(repetitions: usize) -> bool {
     println!("machine: {}; one thread; {} repetitions, medians", crate::machine(), repetitions);
     let call = full_call();
-    println!("{} particles in {} regions", call.particles, call.regions);
+    println!("{} particles in {} regions, {} colliders with friction", call.particles, call.regions, call.boundary.colliders);
     let mut port = Port { call: call.clone() };
     let mut rust = Rust { scene: Scene::new(&call, memory(&call)) };
     let mut times = Times::default();
@@ -24,13 +26,16 @@ pub fn run(repetitions: usize) -> bool {
     let empty = Which::Region(call.regions as usize - 1);
     for _ in 0..repetitions {
         times.port_clear.push(timed(|| port.clear()));
-        times.port_scatter.push(timed(|| port.scatter(&Which::All)));
-        times.port_check.push(timed(|| port.scatter(&empty)));
+        times.port_scatter.push(timed(|| port.ask(&Which::All)));
+        times.port_check.push(timed(|| port.ask(&empty)));
+        times.port_update.push(timed(|| port.ask(&Which::Update)));
         times.rust_clear.push(timed(|| rust.scene.clear()));
         times.rust_scatter.push(timed(|| rust.scene.scatter()));
+        times.rust_update.push(timed(|| rust.scene.update()));
     }
     say("clear", &mut times.port_clear, &mut times.rust_clear);
     say("scatter", &mut times.port_scatter, &mut times.rust_scatter);
+    say("update", &mut times.port_update, &mut times.rust_update);
     println!("of the port's scatter, its check: {:.3} ms", 1e3 * median(&mut times.port_check).as_secs_f64());
     let (floats, words) = rust.scene.nodes();
     let same = (&floats, &words) == (&port.call.node_floats, &port.call.node_words);
@@ -43,8 +48,10 @@ struct Times {
     port_clear: Vec<Duration>,
     port_scatter: Vec<Duration>,
     port_check: Vec<Duration>,
+    port_update: Vec<Duration>,
     rust_clear: Vec<Duration>,
     rust_scatter: Vec<Duration>,
+    rust_update: Vec<Duration>,
 }
 
 struct Port {
@@ -59,18 +66,10 @@ impl Port {
     }
 
     /// The lists are borrowed for the call alone, and the nodes are taken out meanwhile.
-    fn scatter(&mut self, which: &Which) {
+    fn ask(&mut self, which: &Which) {
         let mut node_floats = std::mem::take(&mut self.call.node_floats);
         let mut node_words = std::mem::take(&mut self.call.node_words);
-        let lists = Lists {
-            ids: &self.call.ids,
-            ranges: &self.call.ranges,
-            particle_floats: &self.call.particle_floats,
-            particle_words: &self.call.particle_words,
-            node_floats: &mut node_floats,
-            node_words: &mut node_words,
-        };
-        expect_done(archive::scatter(which, &self.call, lists));
+        expect_done(archive::answer(which, &self.call, Lists::of(&self.call, &mut node_floats, &mut node_words)));
         (self.call.node_floats, self.call.node_words) = (node_floats, node_words);
     }
 }
@@ -106,7 +105,7 @@ fn say(what: &str, port: &mut [Duration], rust: &mut [Duration]) {
     println!("{}: port {:.3} ms, Rust {:.3} ms, ratio {:.2}", what, 1e3 * port.as_secs_f64(), 1e3 * rust.as_secs_f64(), ratio);
 }
 
-/// A block of regions, filled evenly but for its far edges, with everyday particles.
+/// A block of regions, filled evenly but for its far edges, with everyday particles and points about every cell.
 fn full_call() -> Call {
     let mut ids: Vec<u64> =
         (0..COLUMNS * ROWS).map(|place| plane::region([4 * (place % COLUMNS), 4 * (place / COLUMNS)])).collect();
@@ -124,6 +123,8 @@ fn full_call() -> Call {
         let (start, end) = (before(*id), before(id + 1));
         call.ranges[2 * place..2 * place + 2].copy_from_slice(&[start, end - start]);
     }
+    let mut call = bounded(call, COLLIDERS, &mut rng);
+    (call.boundary.handling, call.boundary.locks) = (FRICTION, 0);
     call
 }
 
@@ -145,8 +146,12 @@ mod tests {
         let call = full_call();
         assert_eq!((call.regions, call.particles), (512, 65_536));
         let mut port = Port { call };
-        port.scatter(&Which::All);
+        port.ask(&Which::All);
         assert!(port.call.hits(None).iter().filter(|hit| **hit).count() > 7000);
+        let scattered = port.call.clone();
+        port.ask(&Which::Update);
+        let nodes = scattered.all_answered((&port.call.node_floats, &port.call.node_words));
+        assert!(nodes.iter().filter(|node| *node != "=").count() > 4000);
     }
 
     #[test]

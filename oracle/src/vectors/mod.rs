@@ -1,10 +1,13 @@
 //! The vectors files: questions for the project's programs or its archive, and the answers that the port is held to.
 
+mod book;
+mod faults;
 mod floats;
 mod grid;
 mod numeric;
 mod packing;
 mod scatter;
+mod update;
 
 use crate::rng::SEED;
 use crate::sha256::hex_digest;
@@ -22,6 +25,7 @@ pub const ALL: &[Vectors] = &[
     Vectors { questions: "crates/numeric_runs/stdin", answers: "crates/numeric_runs/stdout", make: numeric::make },
     Vectors { questions: "host/vectors/grid.questions", answers: "host/vectors/grid.answers", make: grid::make },
     Vectors { questions: "host/vectors/scatter.questions", answers: "host/vectors/scatter.answers", make: scatter::make },
+    Vectors { questions: "host/vectors/update.questions", answers: "host/vectors/update.answers", make: update::make },
 ];
 
 impl Vectors {
@@ -34,6 +38,9 @@ impl Vectors {
 
 /// What a sheet is about whose answers are all the Rust's, and which a program reads and writes.
 pub const OF_THE_RUST: &str = "questions (stdin) and the answers of the handed-over Rust to them (stdout), line by line.";
+
+/// What a sheet is about whose answers are the Rust's and, for what the Rust does not have, `reading`'s.
+pub const OF_BOTH: &str = "questions, and the answers of the handed-over Rust and of oracle's own reading to them, line by line.";
 
 /// Questions and answers, line by line; both begin with the header.
 pub struct Sheet {

@@ -2,20 +2,19 @@
 //! handed-over Rust's. It has no call for one region: that is its scatter with the particles of no other region. Nor has it one
 //! in an order of regions: that has to leave what its scatter leaves.
 
-use super::floats::patterns;
-use super::{decimal, Sheet};
+use super::book::{answer, Book};
+use super::faults::{self, over_512};
+use super::{decimal, Sheet, OF_BOTH};
 use crate::reading::{self, Which};
-use crate::rng::{Rng, SEED};
+use crate::rng::Rng;
 use samples::lines::Edit;
 use samples::random::{Numbers, Old, Style, LAST_CELL, WIDTHS};
-use samples::{Call, PARTICLE_FLOATS, PARTICLE_WORDS, REGION_FLOATS, REGION_NODES};
-use sparkl2d::scatter::Scene;
+use samples::{Call, PARTICLE_FLOATS, PARTICLE_WORDS};
+use sparkl2d::scene::Scene;
 use sparkl2d::MmapMut;
 
-const ABOUT: &str = "questions, and the answers of the handed-over Rust and of oracle's own reading to them, line by line.";
-
 /// The handed-over files that the nodes come from.
-const SOURCES: [&str; 6] = [
+pub const SOURCES: [&str; 6] = [
     "src/dynamics/solver/particle_to_grid.rs",
     "src/dynamics/particle.rs",
     "src/dynamics/grid_node.rs",
@@ -45,47 +44,25 @@ const LEGEND: [&str; 17] = [
 ];
 
 pub fn make() -> Sheet {
-    let mut book = Book { sheet: Sheet::titled("Scatter", ABOUT, &SOURCES, &LEGEND), calls: vec![], rng: Rng::new(SEED) };
+    let mut book = Book::new(Sheet::titled("Scatter", OF_BOTH, &SOURCES, &LEGEND));
     book.accepted();
     book.refused();
     book.sheet
 }
 
-/// The sheet, and the calls that stand in it already.
-struct Book {
-    sheet: Sheet,
-    calls: Vec<Call>,
-    rng: Rng,
-}
-
 impl Book {
-    /// Writes a call down; its number is what later lines name it by.
     fn add(&mut self, call: Call) -> usize {
-        let number = self.calls.len();
-        let mut fields = vec![decimal(number as u64)];
-        fields.extend(call.fields());
-        self.sheet.row("b", fields, vec![decimal(call.node_words.len() as u64)]);
-        self.calls.push(call);
-        number
+        let fields = call.fields();
+        self.enter(call, fields)
     }
 
     fn ask(&mut self, number: usize, which: &Which, edits: &[Edit]) {
-        let mut fields = vec![decimal(number as u64)];
-        let operation = match which {
-            Which::All => "f",
-            Which::Region(place) => {
-                fields.push(decimal(*place));
-                "o"
-            }
-            Which::Order(order) => {
-                fields.push(decimal(order.len() as u64));
-                fields.extend(order.iter().map(|place| decimal(*place)));
-                "q"
-            }
+        let (operation, more) = match which {
+            Which::All => ("f", vec![]),
+            Which::Region(place) => ("o", vec![decimal(*place)]),
+            Which::Order(order) => ("q", [order.len() as u64].iter().chain(*order).map(|place| decimal(*place)).collect()),
         };
-        fields.extend(edits.iter().map(Edit::to_string));
-        let answer = answer(which, &self.calls[number].edited(edits));
-        self.sheet.row(operation, fields, answer);
+        self.question(operation, number, more, edits, |call| answer(reading::scatter(which, call), || nodes(which, call)));
     }
 
     /// The call by all three: a region that has particles, and an order that is not the list's.
@@ -107,17 +84,6 @@ impl Book {
     /// The regions colour by colour, shuffled within each.
     fn order(&mut self, number: usize) -> Vec<u64> {
         samples::random::order(&self.calls[number], &mut self.rng)
-    }
-}
-
-fn answer(which: &Which, call: &Call) -> Vec<String> {
-    match reading::scatter(which, call) {
-        Some(refusal) => vec![decimal(refusal.number), decimal(refusal.index as u64)],
-        None => {
-            let mut fields = vec![decimal(0u32); 2];
-            fields.extend(nodes(which, call));
-            fields
-        }
     }
 }
 
@@ -258,14 +224,6 @@ fn first_regions(count: u64) -> Vec<u64> {
     (0..count).map(|place| place << 12).collect()
 }
 
-/// One region more than may be, and lengths that match.
-fn over_512() -> Vec<Edit> {
-    let lengths = [('i', 513), ('s', 2 * 513), ('m', 513 * REGION_FLOATS), ('k', 513 * REGION_NODES)];
-    let mut edits = vec![Edit::Count('r', 513)];
-    edits.extend(lengths.map(|(letter, length)| Edit::Length(letter, length)));
-    edits
-}
-
 /// Dense and thin samples, few regions and many, the ends of axes, and numbers and nodes of every kind.
 fn styles(rng: &mut Rng) -> Vec<Style> {
     let mut found = vec![];
@@ -298,13 +256,13 @@ fn styles(rng: &mut Rng) -> Vec<Style> {
 impl Book {
     fn refused(&mut self) {
         for number in self.good_calls() {
-            let faults = faults(&self.calls[number]);
+            let faults = faults::of_scatter(&self.calls[number]);
             for edits in &faults {
                 self.ask_all(number, edits);
             }
             self.bad_places(number);
             for _ in 0..150 {
-                let edits = together(&faults, &mut self.rng);
+                let edits = faults::together(&faults, &mut self.rng);
                 self.ask_all(number, &edits);
             }
         }
@@ -401,137 +359,10 @@ fn bad_orders(order: &[u64], regions: u64) -> Vec<Vec<u64>> {
     found
 }
 
-/// Changes that each break a rule, or now and then none.
-fn faults(call: &Call) -> Vec<Vec<Edit>> {
-    let mut found = wrong_lengths(call);
-    found.extend(wrong_counts(call));
-    found.push(over_512());
-    found.extend(wrong_settings());
-    found.extend(wrong_words(call));
-    found.extend(wrong_floats(call));
-    found.extend(wrong_ids(call));
-    found.extend(wrong_ranges(call));
-    found.extend(wrong_positions(call));
-    found
-}
-
-/// Several faults at once. Entries come before lengths, so that each is still there when it is changed.
-fn together(faults: &[Vec<Edit>], rng: &mut Rng) -> Vec<Edit> {
-    let count = 2 + rng.below(3);
-    let mut edits: Vec<Edit> = (0..count).flat_map(|_| faults[rng.below(faults.len() as u64) as usize].clone()).collect();
-    edits.sort_by_key(|edit| matches!(edit, Edit::Length(..)));
-    edits
-}
-
-fn wrong_lengths(call: &Call) -> Vec<Vec<Edit>> {
-    let lists = [
-        ('i', call.ids.len(), 1),
-        ('s', call.ranges.len(), 2),
-        ('f', call.particle_floats.len(), PARTICLE_FLOATS),
-        ('w', call.particle_words.len(), PARTICLE_WORDS),
-        ('m', call.node_floats.len(), REGION_FLOATS),
-        ('k', call.node_words.len(), REGION_NODES),
-    ];
-    let lengths = |length: usize, each: usize| [length + 1, length - 1, length + each, length - each, 0, 2 * length];
-    lists
-        .iter()
-        .flat_map(|(letter, length, each)| lengths(*length, *each).map(|other| vec![Edit::Length(*letter, other)]))
-        .collect()
-}
-
-/// Counts that are off by one, and that are off by so much that their products with a record's size are right again in 64 bits
-/// or in 32.
-fn wrong_counts(call: &Call) -> Vec<Vec<Edit>> {
-    let others = |count: u64| {
-        let wrapped = [32, 57, 58, 59, 60, 61, 62, 63].map(|bit| count + (1 << bit));
-        [&[0, count - 1, count + 1, u64::MAX][..], &wrapped[..]].concat()
-    };
-    let counts = |letter: char, count: u64| others(count).into_iter().map(move |other| vec![Edit::Count(letter, other)]);
-    let none = |bit: u32| vec![Edit::Count('p', 1 << bit), Edit::Length('f', 0), Edit::Length('w', 0)];
-    counts('r', call.regions).chain(counts('p', call.particles)).chain([62, 63].map(none)).collect()
-}
-
-/// What no setting may be; 0 and below are allowed to gravity, and what is just inside a range is no fault.
-fn wrong_settings() -> Vec<Vec<Edit>> {
-    const NOT_FINITE: [u32; 5] = [0x7F80_0000, 0xFF80_0000, 0x7FC0_0000, 0x7F80_0001, 0xFFFF_FFFF];
-    let zeros_and_below = patterns(&[0.0, -0.0, -1e-45, -1.0, f32::MIN]);
-    let widths = [0x3580_0000, 0x4980_0000].iter().flat_map(|end| [end - 1, *end, end + 1]);
-    let widths = widths.chain(patterns(&[1e-45, f32::MIN_POSITIVE, f32::MAX]));
-    let mut found: Vec<(char, u32)> = "htxy".chars().flat_map(|letter| NOT_FINITE.map(|bits| (letter, bits))).collect();
-    found.extend(zeros_and_below.iter().flat_map(|bits| [('h', *bits), ('t', *bits)]));
-    found.extend(widths.map(|bits| ('h', bits)));
-    found.into_iter().map(|(letter, bits)| vec![Edit::Setting(letter, bits)]).collect()
-}
-
-fn wrong_words(call: &Call) -> Vec<Vec<Edit>> {
-    let values = [2, 3, 7, 1 << 31, u32::MAX, 256].into_iter().cycle();
-    (0..call.particle_words.len()).zip(values).map(|(place, value)| vec![Edit::Entry('w', place, u64::from(value))]).collect()
-}
-
-/// Every float of the first, the last and a middle particle.
-fn wrong_floats(call: &Call) -> Vec<Vec<Edit>> {
-    let values = [0x7F80_0000, 0xFF80_0000, 0x7FC0_0000, 0x7F80_0001, 0xFFFF_FFFF].into_iter().cycle();
-    let last = call.particles as usize - 1;
-    let places = [0, last / 2, last]
-        .into_iter()
-        .flat_map(|particle| (0..PARTICLE_FLOATS).map(move |place| particle * PARTICLE_FLOATS + place));
-    places.zip(values).map(|(place, value)| vec![Edit::Entry('f', place, value)]).collect()
-}
-
-/// Low bits, ids again and out of order, and regions that are listed in another's stead.
-fn wrong_ids(call: &Call) -> Vec<Vec<Edit>> {
-    let mut found = vec![];
-    for (place, id) in call.ids.iter().enumerate() {
-        let before = call.ids[place.saturating_sub(1)];
-        let others = [id | 1 << (place % 12), before, before & !0xFFF ^ 0x1000, 0, !0xFFF, u64::MAX];
-        found.extend(others.map(|other| vec![Edit::Entry('i', place, other)]));
-        found.extend([1, 2, 3, 4].map(|more| vec![Edit::Entry('i', place, id + (more << 12))]));
-    }
-    found
-}
-
-fn wrong_ranges(call: &Call) -> Vec<Vec<Edit>> {
-    let others = |entry: u64| [entry + 1, entry.wrapping_sub(1), u64::MAX, 1 << 63, 1 << 32];
-    let entries = call.ranges.iter().enumerate();
-    let mut found: Vec<Vec<Edit>> =
-        entries.flat_map(|(place, entry)| others(*entry).map(|other| vec![Edit::Entry('s', place, other)])).collect();
-    // A count that wraps where the next start is right again.
-    found.extend((0..call.ids.len() - 1).map(|region| {
-        let (start, count) = (2 * region, 2 * region + 1);
-        vec![Edit::Entry('s', count, u64::MAX), Edit::Entry('s', start + 2, call.ranges[start].wrapping_sub(1))]
-    }));
-    found.push(vec![Edit::Count('p', call.particles + 1), more('f', call, 1), more('w', call, 1)]);
-    found.push(vec![Edit::Count('p', call.particles - 1), more('f', call, -1), more('w', call, -1)]);
-    found
-}
-
-/// The particles' floats or words for so many particles more or less.
-fn more(letter: char, call: &Call, more: i64) -> Edit {
-    let each = if letter == 'f' { PARTICLE_FLOATS } else { PARTICLE_WORDS };
-    Edit::Length(letter, (call.particles as i64 + more) as usize * each)
-}
-
-/// Places off the grid, in other regions, and at each cell of a region, where stencils reach regions that are not listed.
-fn wrong_positions(call: &Call) -> Vec<Vec<Edit>> {
-    const OFF: [f32; 12] = [0.0, -0.0, -1.0, 0.25, 0.49999997, 65535.5, 65536.0, 4294967296.0, 1e20, -1e20, 1e-45, f32::MAX];
-    let mut found = vec![];
-    for particle in 0..call.particles as usize {
-        let position = call.position(particle);
-        let at = |axis: usize, x: f32| Edit::Entry('f', particle * PARTICLE_FLOATS + axis, u64::from(x.to_bits()));
-        let off = OFF[particle % OFF.len()..].iter().chain(&OFF[..particle % OFF.len()]).take(5);
-        found
-            .extend(off.zip([0, 1].into_iter().cycle()).map(|(off, axis)| vec![at(axis, (off * call.cell_width).min(f32::MAX))]));
-        for cells in [1.0, 2.0, 3.0, 4.0, -4.0] {
-            let moved = position.map(|x| x + cells * call.cell_width);
-            found.extend([vec![at(0, moved[0])], vec![at(1, moved[1])], vec![at(0, moved[0]), at(1, moved[1])]]);
-        }
-    }
-    found
-}
-
 #[cfg(test)]
 mod tests {
     use super::*;
+    use crate::rng::SEED;
     use crate::vectors::format::rows;
     use std::collections::{BTreeMap, BTreeSet};
 

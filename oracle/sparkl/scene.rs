@@ -1,24 +1,31 @@
-//! The handed-over scatter on the records that the port is lent, in two dimensions. What the Rust would find out by sorting
-//! (regions, their particles, the particles' order) is set from the port's lists.
+//! The handed-over scatter and update on the records that the port is lent, in two dimensions. What the Rust would find out by
+//! sorting (regions, their particles, the particles' order) is set from the port's lists, and so is what shapes would answer.
 
+use crate::colliders::{Collider, ColliderSet};
 use crate::core::prelude::{ActiveTimestepBounds, CoreConstitutiveModel};
 use crate::dynamics::models::ConstitutiveModel;
-use crate::dynamics::solver::MlsSolver;
+use crate::dynamics::solver::{BoundaryHandling, MlsSolver, RigidWorld, SimulationDofs};
 use crate::dynamics::{GridNode, GridNodeFlags, Particle, ParticleModel, ParticleModelHandle, ParticleModelSet, ParticleSet};
 use crate::geometry::{way_in, SpGrid};
 use crate::math::{Matrix, Real, SMatrix, Vector};
+use crate::query::PointProjection;
 use crate::MmapMut;
-use samples::{Call, NODE_FLOATS, PARTICLE_FLOATS, PARTICLE_WORDS, REGION_NODES};
+use samples::{Boundary, Call, NODE_FLOATS, PARTICLE_FLOATS, PARTICLE_WORDS, PROJECTION_FLOATS, REGION_NODES};
 use std::ops::Range;
 
-/// All that the Rust's scatter works on.
+/// All that the Rust's stages work on.
 pub struct Scene {
     dt: Real,
     gravity: Vector<Real>,
     ids: Vec<u64>,
+    /// The port's words of the nodes, which say more than whether a flag is on.
+    words: Vec<u32>,
     grid: SpGrid<GridNode>,
     particles: ParticleSet,
     models: ParticleModelSet,
+    colliders: ColliderSet,
+    boundary_handling: BoundaryHandling,
+    simulation_dofs: SimulationDofs,
 }
 
 impl Scene {
@@ -32,8 +39,18 @@ impl Scene {
         let mut particles = ParticleSet::new();
         particles.set_particles(records.iter().enumerate().map(|(place, record)| record.made(place, &grid, model)).collect());
         particles.regions = regions(call);
-        let mut scene =
-            Scene { dt: call.dt, gravity: Vector::from(call.gravity), ids: call.ids.clone(), grid, particles, models };
+        let mut scene = Scene {
+            dt: call.dt,
+            gravity: Vector::from(call.gravity),
+            ids: call.ids.clone(),
+            words: call.node_words.clone(),
+            grid,
+            particles,
+            models,
+            colliders: colliders(&call.boundary),
+            boundary_handling: boundary_handling(call.boundary.handling),
+            simulation_dofs: SimulationDofs::from_bits_unchecked(call.boundary.locks),
+        };
         scene.set_nodes(call);
         scene
     }
@@ -48,8 +65,15 @@ impl Scene {
         MlsSolver::particle_to_grid_scatter(self.dt, &self.gravity, &mut self.grid, &mut self.particles, &self.models);
     }
 
+    pub fn update(&mut self) {
+        let rigid_world = RigidWorld { colliders: &self.colliders };
+        let Scene { dt, grid, particles, boundary_handling, simulation_dofs, .. } = self;
+        MlsSolver::grid_update(*dt, &rigid_world, grid, particles, *boundary_handling, *simulation_dofs);
+    }
+
     /// What `ParticleSet::sort` does to the nodes of the regions that it found before; it does not do this alone.
     pub fn clear(&mut self) {
+        self.words.fill(0);
         for cell in self.ids.iter().flat_map(|region| cells(*region)) {
             self.grid.get_packed_mut(cell).reset();
         }
@@ -66,7 +90,8 @@ impl Scene {
     /// The nodes' floats, by their bits, and words.
     pub fn nodes(&self) -> (Vec<u32>, Vec<u32>) {
         let found = || self.ids.iter().flat_map(|region| cells(*region)).map(|cell| self.grid.get_packed(cell));
-        (found().flat_map(node_bits).collect(), found().map(|node| node.flags.bits()).collect())
+        let words = found().zip(&self.words).map(|(node, word)| node_word(node, *word));
+        (found().flat_map(node_bits).collect(), words.collect())
     }
 
     /// Of each node, whether a particle of a region that still has its own reaches it.
@@ -96,7 +121,7 @@ fn made_node(floats: &[u32], word: u32) -> GridNode {
         momentum: Vector::from([at(1), at(2)]),
         velocity: Vector::from([at(3), at(4)]),
         particles: (0, 0),
-        flags: GridNodeFlags::from_bits_unchecked(word),
+        flags: if word == 0 { GridNodeFlags::NONE } else { GridNodeFlags::BOUNDARY },
         psi_momentum: at(5),
         psi_mass: at(6),
     }
@@ -105,6 +130,39 @@ fn made_node(floats: &[u32], word: u32) -> GridNode {
 fn node_bits(node: &GridNode) -> [u32; NODE_FLOATS] {
     let GridNode { mass, momentum, velocity, psi_momentum, psi_mass, .. } = node;
     [mass, &momentum.x, &momentum.y, &velocity.x, &velocity.y, psi_momentum, psi_mass].map(|part| part.to_bits())
+}
+
+/// The port has one flag, off at 0 and else on, which keeps its word while it is on; the Rust's is a bit among others.
+fn node_word(node: &GridNode, before: u32) -> u32 {
+    match (node.boundary(), before) {
+        (false, _) => 0,
+        (true, 0) => 1,
+        (true, before) => before,
+    }
+}
+
+/// Every collider with its own of the projections, which the port has in the order of regions, cells and colliders.
+fn colliders(boundary: &Boundary) -> ColliderSet {
+    let points =
+        boundary.points.chunks_exact(PROJECTION_FLOATS).map(|point| Vector::from([point[0], point[1]].map(Real::from_bits)));
+    let projections: Vec<PointProjection> =
+        points.zip(&boundary.insides).map(|(point, inside)| PointProjection::new(*inside != 0, point)).collect();
+    let mut set = ColliderSet::new();
+    for (place, friction) in boundary.frictions.iter().enumerate() {
+        let own = projections.iter().skip(place).step_by(boundary.frictions.len()).copied().collect();
+        set.insert(Collider::new(Real::from_bits(*friction), own));
+    }
+    set
+}
+
+fn boundary_handling(code: u32) -> BoundaryHandling {
+    match code {
+        samples::NONE => BoundaryHandling::None,
+        samples::STICK => BoundaryHandling::Stick,
+        samples::FRICTION => BoundaryHandling::Friction,
+        samples::FRICTION_Z_UP => BoundaryHandling::FrictionZUp,
+        _ => panic!("no boundary handling {}", code),
+    }
 }
 
 fn regions(call: &Call) -> Vec<(u64, Range<usize>)> {
