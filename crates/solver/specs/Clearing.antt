@@ -139,6 +139,7 @@ Served (scatteringInOrder order c) p = p < c .count
 Served (updating c) p = ⊥
 Served (inTurn c code locks count colliders projections) p = p < c .count
 
+-- the id that it takes a particle to by a shift; one that serves no particle takes none anywhere
 abbrev pub idOf : Call → ℕ → ℕ → ℕ
 idOf (clearing regions) p k = 0
 idOf (scattering c) p k = stencilId (c .h) (c .particles) p k
