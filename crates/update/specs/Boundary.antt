@@ -1,5 +1,7 @@
 -- Document 01, "Update": what a collider makes of a node, by the projection of the node's cell on it. Vectors are lists, an entry an axis, so that the plane and space
--- share each definition. Definitions only.
+-- share each definition. Definitions, and what is proved of them.
+-- Assumes nothing.
+use mathlib.Core.Path.{_≡_, refl}
 use mathlib.Core.Bool.{Bool, true, false, cond, _||_}
 use mathlib.Core.List.{List, [], _∷_, map}
 use Prim.Native.Nat.{ℕ}
@@ -92,6 +94,28 @@ against h dt friction inside n normal v = cond (lt (dot v normal) none) (met dt 
 -- e = centre - point; nothing unless it has a direction
 unfoldable pub rubbed : Float → Float → Float → Bool → List Float → List Float → List Float
 rubbed h dt friction inside e v = cond (directed e) (against h dt friction inside (norm e) (turned inside (direction e)) v) v
+
+-- The same in one piece, in document 01's words and order: e = centre - point, n = its norm; nothing unless e·e > 1.0e-5·1.0e-5; N = e/n, negated inside; s = v·N; only if
+-- s < 0: q = n - h; inside or q ≤ 0: t = v - s·N becomes the velocity and, only if |t| > 1.0e-10, then (t/|t|)·max(|t| + s·friction, 0); else if -s·dt > q: v -= (q/dt + s)·N.
+unfoldable pub asWritten : Float → Float → Float → Bool → List Float → List Float → List Float
+asWritten h dt friction inside e v =
+    let n = norm e in
+    let normal = turned inside (map (λ (x : Float). x ⊘ n) e) in
+    let s = dot v normal in
+    let q = n ⊖ h in
+    let t = less v s normal in
+    cond (lt (leastNorm ⊗ leastNorm) (dot e e))
+    (cond (lt s none)
+    (cond (inside || le q none)
+    (cond (lt leastTangent (norm t)) (map (λ (x : Float). (x ⊘ norm t) ⊗ maximum (norm t ⊕ s ⊗ friction) none) t) t)
+    (cond (lt q (neg s ⊗ dt)) (less v (q ⊘ dt ⊕ s) normal)
+    v))
+    v)
+    v
+
+pub is-as-written : (h dt friction : Float) (inside : Bool) (e v : List Float) → rubbed h dt friction inside e v ≡ asWritten h dt friction inside e v
+unfolding rubbed against met slid asWritten
+is-as-written h dt friction inside e v = refl
 
 -- what becomes of a velocity: stick inside is 0
 unfoldable pub handled : BoundaryHandling → Float → Float → Float → List Float → Projection → List Float → List Float
