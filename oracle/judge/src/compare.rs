@@ -60,7 +60,7 @@ fn is_strange(node: &str) -> bool {
 fn ports(which: &Which, call: &Call) -> Result<Vec<String>, Refusal> {
     let (mut node_floats, mut node_words) = (call.node_floats.clone(), call.node_words.clone());
     match archive::answer(which, call, Lists::of(call, &mut node_floats, &mut node_words)) {
-        Refusal { number: 0, .. } => Ok(written(which, call, (&node_floats, &node_words))),
+        Refusal { number: 0, .. } => Ok(written(which, call, (&node_floats, &node_words), || call.hits(only(which)))),
         refusal => Err(refusal),
     }
 }
@@ -81,14 +81,14 @@ fn rusts(which: &Which, call: &Call) -> Vec<String> {
         }
     }
     let (floats, words) = scene.nodes();
-    written(which, call, (&floats, &words))
+    written(which, call, (&floats, &words), || scene.hits())
 }
 
-/// The nodes afterwards, as an answer has them.
-fn written(which: &Which, call: &Call, nodes: (&[u32], &[u32])) -> Vec<String> {
+/// The nodes afterwards, as an answer has them; each side says by itself which of them a scatter hit.
+fn written(which: &Which, call: &Call, nodes: (&[u32], &[u32]), hits: impl FnOnce() -> Vec<bool>) -> Vec<String> {
     match which {
         Which::Update | Which::Sequence => call.all_answered(nodes),
-        _ => call.answered(nodes, &call.hits(only(which))),
+        _ => call.answered(nodes, &hits()),
     }
 }
 
