@@ -1,8 +1,11 @@
 -- Vectors as lists, an entry an axis, and matrices as lists of rows, so that the plane and space share each definition; and the plane's structs as such lists.
 -- Definitions only.
-use mathlib.Core.List.{List, [], _∷_}
+use mathlib.Core.List.{List, [], _∷_, map}
+use Prim.Native.Nat.{ℕ, zero, suc}
 use lib.Ieee.{Float, nan}
-use lib.ListN.{getD}
+use lib.ListN.{length, getD}
+use Rattle.numeric.specs.Bits.{_⊗_, none, one}
+use Rattle.numeric.specs.Kernel.{dot}
 use Rattle.numeric.specs.declared.dim2.Vector.{Vector}
 use Rattle.numeric.specs.declared.dim2.Matrix.{Matrix}
 
@@ -12,6 +15,33 @@ pairwise f [] ys = []
 pairwise f (x ∷ xs) [] = []
 pairwise f (x ∷ xs) (y ∷ ys) = f x y ∷ pairwise f xs ys
 
+-- zeros in the place of every entry, of a vector and of a matrix
+abbrev pub zeros : List Float → List Float
+zeros v = map (λ (x : Float). none) v
+
+abbrev pub zeroRows : List (List Float) → List (List Float)
+zeroRows m = map zeros m
+
+-- the identity, with as many rows as a matrix
+abbrev pub identity : List (List Float) → List (List Float)
+identity [] = []
+identity (row ∷ rows) = (one ∷ map (λ (r : List Float). none) rows) ∷ map (λ (r : List Float). none ∷ r) (identity rows)
+
+-- u·wᵀ
+abbrev pub outer : List Float → List Float → List (List Float)
+outer u w = map (λ (x : Float). map (λ (y : Float). x ⊗ y) w) u
+
+-- the n columns of a matrix from the j-th on
+abbrev pub columns : ℕ → ℕ → List (List Float) → List (List Float)
+columns zero j m = []
+columns (suc n) j m = map (λ (row : List Float). getD row j nan) m ∷ columns n (suc j) m
+
+-- a·b, each entry the product of a row of a and a column of b
+abbrev pub matrixProduct : List (List Float) → List (List Float) → List (List Float)
+matrixProduct a b = map (λ (row : List Float). map (dot row) (columns (length b) 0 b)) a
+
+-- ---- in the plane
+
 abbrev pub axes : Vector → List Float
 axes v = v .x ∷ v .y ∷ []
 
@@ -20,3 +50,12 @@ rows m = (m .m00 ∷ m .m01 ∷ []) ∷ (m .m10 ∷ m .m11 ∷ []) ∷ []
 
 abbrev pub vector : List Float → Vector
 vector xs = record { x = getD xs 0 nan; y = getD xs 1 nan }
+
+abbrev pub matrix : List (List Float) → Matrix
+matrix rows =
+    record {
+      m00 = getD (getD rows 0 []) 0 nan;
+      m01 = getD (getD rows 0 []) 1 nan;
+      m10 = getD (getD rows 1 []) 0 nan;
+      m11 = getD (getD rows 1 []) 1 nan;
+    }

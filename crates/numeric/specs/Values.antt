@@ -4,11 +4,12 @@ use mathlib.Core.List.{[], _∷_, map}
 use mathlib.Core.Path.{_≡_, refl}
 use Prim.Native.Nat.{ℕ, _^_}
 use lib.IntN.{pos, negsuc}
-use lib.Ieee.{Float, nan, inf, fin, binary32, round, neg, ofBits, toBits, ofInt, toUnsigned, mul, sub, div, lt, eq, isNan}
+use lib.Ieee.{Float, nan, inf, fin, binary32, round, neg, ofBits, toBits, ofInt, toUnsigned, add, mul, sub, div, lt, eq, isNan}
 use Rattle.numeric.specs.Bits.{none, half, threeQuarters, one, threeHalves, two, four}
 use Rattle.numeric.specs.Round.{roundAway, castU32, nearestTo}
 use Rattle.numeric.specs.Root.{wholeRoot, rootOf}
 use Rattle.numeric.specs.Scalar.{inverse, maximum, magnitude, signOf}
+use Rattle.numeric.specs.Axes.{identity, outer, matrixProduct}
 use Rattle.numeric.specs.Kernel.{invD, evalAll, eval, evalDerivative, precomputeWeights, stencilWithDir, stencilGradientWithDir}
 
 -- the f32 with a pattern, and the pattern of one
@@ -48,6 +49,15 @@ cast = (refl, refl, refl, refl, refl, refl, refl)
 whole : (bits (nearestTo 16777217) ≡ 0x4b800000) × (bits (nearestTo 16777219) ≡ 0x4b800002) × (bits (nearestTo 4294967295) ≡ 0x4f800000)
 unfolding ofInt round toBits
 whole = (refl, refl, refl)
+
+-- ---- matrices, by rows
+
+-- (1 2; 0 1)·(1 0; 2 1) is (5 2; 2 1); (1 2)ᵀ·(2 1) is (2 1; 4 2); the identity of two rows
+matrices : (map (map bits) (matrixProduct ((one ∷ two ∷ []) ∷ (none ∷ one ∷ []) ∷ []) ((one ∷ none ∷ []) ∷ (two ∷ one ∷ []) ∷ [])) ≡ (0x40a00000 ∷ 0x40000000 ∷ []) ∷ (0x40000000 ∷ 0x3f800000 ∷ []) ∷ [])
+    × (map (map bits) (outer (one ∷ two ∷ []) (two ∷ one ∷ [])) ≡ (0x40000000 ∷ 0x3f800000 ∷ []) ∷ (0x40800000 ∷ 0x40000000 ∷ []) ∷ [])
+    × (identity ([] ∷ [] ∷ []) ≡ (one ∷ none ∷ []) ∷ (none ∷ one ∷ []) ∷ [])
+unfolding round add mul ofBits toBits
+matrices = (refl, refl, refl)
 
 -- ---- the root
 
