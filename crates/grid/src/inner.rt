@@ -6,6 +6,7 @@ ghost use Prim.Native.Nat.{_+_, _*_, _<_, _≤_};
 ghost use lib.Dec.{eqb};
 ghost use lib.ListN.{length};
 ghost use Rattle.laws.specs.Store.{store};
+ghost use Rattle.grid.specs.Answers.{unless};
 ghost use Rattle.grid.specs.Nodes.{nodeFloats, nodeWords, nodeAt, putNode};
 ghost use Rattle.grid.specs.Table.{all, matches, nodeLengths, limits, finite, goodWidth, goodStep, called, flags, numbers, badRegion, regionIds, rangeWords, cover};
 use crate::Answer;
@@ -119,6 +120,16 @@ pub fn is_finite_vector(v: Vector) -> bool
     ensures { λ r. ⌜ r ≡ all finite (v .x ∷ v .y ∷ []) ⌝ }
 {
     is_finite(v.x) & is_finite(v.y)
+}
+
+// The first of two answers that refuses.
+pub fn first_refusal(a: Answer, b: Answer) -> Answer
+    ensures { λ r. ⌜ r ≡ unless a b ⌝ }
+{
+    let Answer::Done = a else {
+        return a;
+    };
+    b
 }
 
 // Numbers 1 to 3 and what is found of a call's own settings in 4, in this order.

@@ -19,6 +19,7 @@ use grid::inner::check_flags;
 use grid::inner::check_limits;
 use grid::inner::check_numbers;
 use grid::inner::check_regions;
+use grid::inner::first_refusal;
 use grid::inner::fits;
 use grid::inner::holds_nodes;
 use grid::inner::is_step;
@@ -41,7 +42,7 @@ pub fn check_update(
 ) -> Answer
     ensures { λ a. ⌜ a ≡ updateCheck «cell_width» dt «boundary_handling» «simulation_dofs» regions (now (ids .entry)) colliders (now (cf .entry)) (store (now (jf .entry)) (now (jw .entry))) nf nw ⌝ }
 {
-    let a = check_call(
+    let call = check_call(
         (ids.len() == regions)
             & (fits(cf.len(), colliders, COLLIDER_FLOATS)
                 & (holds_projections(regions, colliders, jf.len(), jw.len())
@@ -50,10 +51,7 @@ pub fn check_update(
         is_width(cell_width) & is_step(dt),
         check_own(boundary_handling, simulation_dofs),
     );
-    let Answer::Done = a else {
-        return a;
-    };
-    check_given(ids, cf, jf, jw)
+    first_refusal(call, check_given(ids, cf, jf, jw))
 }
 
 // Whether slices of these lengths hold the projections of so many regions and colliders.
@@ -104,17 +102,11 @@ pub(crate) fn handling_of(boundary_handling: u32) -> Handling
 fn check_given(ids: &[u64], cf: &[f32], jf: &[f32], jw: &[u32]) -> Answer
     ensures { λ a. ⌜ a ≡ given (now (ids .entry)) (now (cf .entry)) (store (now (jf .entry)) (now (jw .entry))) ⌝ }
 {
-    let a = check_flags(jw);
-    let Answer::Done = a else {
-        return a;
-    };
-    let b = check_numbers(cf, COLLIDER_FLOATS);
-    let Answer::Done = b else {
-        return b;
-    };
-    let c = check_numbers(jf, PROJECTION_FLOATS);
-    let Answer::Done = c else {
-        return c;
-    };
-    check_regions(ids)
+    first_refusal(
+        check_flags(jw),
+        first_refusal(
+            check_numbers(cf, COLLIDER_FLOATS),
+            first_refusal(check_numbers(jf, PROJECTION_FLOATS), check_regions(ids)),
+        ),
+    )
 }
