@@ -3,12 +3,12 @@
 -- Assumes nothing.
 use mathlib.Core.Path.{_≡_}
 use mathlib.Core.Bool.{Bool, true, false, _&&_, not}
-use mathlib.Core.List.{List, [], _∷_}
+use mathlib.Core.List.{List, [], _∷_, _++_}
 use Prim.Native.Nat.{ℕ, _+_, _*_, _≤_, _<_}
 use lib.ListN.{length, getD}
 use lib.Dec.{eqb}
 use lib.Ieee.{Float, binary32, le, ofBits}
-use Rattle.laws.specs.Store.{Store}
+use Rattle.laws.specs.Store.{Store, Holds}
 use Rattle.packing.specs.Ids.{dim2, region, stencilOf}
 use Rattle.numeric.specs.Bits.{one}
 use Rattle.cells.specs.Cells.{nearest, cellAssociatedToPoint, regionAssociatedToPoint}
@@ -16,7 +16,8 @@ use Rattle.cells.specs.Lookup.{lookup}
 use Rattle.cells.specs.declared.Found.{Found}
 use Rattle.cells.specs.declared.Found.the-variants.{At, Absent}
 use Rattle.grid.specs.Answers.{refuse, first, firstOf}
-use Rattle.grid.specs.Table.{all, finite, isFlag, regionIds, Regions, startOf, countOf, cover, Covers}
+use Rattle.grid.specs.Nodes.{nodeForm, regionCells}
+use Rattle.grid.specs.Table.{all, lengths, nodeLengths, limits, finite, settings, isFlag, regionIds, Regions, rangeWords, startOf, countOf, cover, Covers}
 use Rattle.grid.specs.declared.Answer.{Answer}
 use Rattle.grid.specs.declared.Rule.{Rule}
 use Rattle.grid.specs.declared.Rule.the-variants.{Length, Limit, Setting, Code, NotFinite, RegionIds, Cover, OffGrid, OutOfRegion, Unlisted}
@@ -112,6 +113,25 @@ checked h ids ranges s n =
     ∷ []
     )
 
+-- ---- a stage: a call that is given particles in listed regions, and the nodes of these
+
+-- 1 to 10; of the nodes, only how many floats and words there are. `good` says of each of its settings in 3 whether it is good, `own` is what is found of its own in 4, ahead of
+-- records.
+abbrev pub stageCheck : List Bool → Answer → Float → ℕ → List ℕ → List ℕ → ℕ → Store → ℕ → ℕ → Answer
+stageCheck good own h regions ids ranges count particles nf nw =
+    first (
+    lengths ((length ids, regions) ∷ (length ranges, regions * rangeWords) ∷ particleLengths count (length (particles .floats)) (length (particles .words)) ++ nodeLengths regions nf nw)
+    ∷ limits regions count 0
+    ∷ settings good
+    ∷ own
+    ∷ checked h ids ranges particles count
+    ∷ []
+    )
+
+-- every region of a particle's stencil is listed
+abbrev pub Reached : Float → List ℕ → Particle → Type 0
+Reached h ids q = all (listed ids) (stencilOf dim2 (cellAssociatedToPoint dim2 h (positionOf q))) ≡ true
+
 -- ---- what is proved where nothing is refused: what a stage may build on
 
 pub record Accepted (h : Float) (ids ranges : List ℕ) (s : Store) (n : ℕ) : Type 0 where
@@ -122,4 +142,11 @@ pub record Accepted (h : Float) (ids ranges : List ℕ) (s : Store) (n : ℕ) : 
   pub on-grid : (p : ℕ) → p < n → all (onAxis h) (positionOf (particleAt s p)) ≡ true
   pub in-region : (r : ℕ) → r < length ids → (p : ℕ) → startOf ranges r ≤ p → p < startOf ranges r + countOf ranges r
       → regionAssociatedToPoint dim2 h (positionOf (particleAt s p)) ≡ getD ids r 0
-  pub stencils : (p : ℕ) → p < n → all (listed ids) (stencilOf dim2 (cellAssociatedToPoint dim2 h (positionOf (particleAt s p)))) ≡ true
+  pub stencils : (p : ℕ) → p < n → Reached h ids (particleAt s p)
+
+pub record Ready (h : Float) (ids ranges : List ℕ) (particles s : Store) : Type 0 where
+  pub count : ℕ
+  pub ranges-long : length ranges ≡ length ids * rangeWords
+  pub particles-held : Holds particleForm particles count
+  pub nodes-held : Holds nodeForm s (length ids * regionCells)
+  pub accepted : Accepted h ids ranges particles count

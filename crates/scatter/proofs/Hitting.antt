@@ -1,11 +1,10 @@
 -- One hit, as the code makes it: the node is read, changed and written back. Assumes nothing.
 use mathlib.Core.Path.{_≡_, refl, sym, ap, _∙_}
-use mathlib.Core.Bool.{Bool, true, false, true≢false}
-use mathlib.Core.List.{List, [], _∷_}
-use Prim.Native.Nat.{ℕ, zero, suc, _+_, _*_, _<_}
-use native.Mathlib.Omega.{arith}
+use mathlib.Core.Bool.{true, false}
+use mathlib.Core.List.{List}
+use Prim.Native.Nat.{ℕ, _+_, _*_}
 use lib.Ieee.{Float}
-use lib.ListN.{length, getD}
+use lib.ListN.{getD}
 use Rattle.packing.specs.Ids.{dim2, region, number, inColour, stencilOf}
 use Rattle.laws.specs.Store.{Store}
 use Rattle.laws.specs.Hits.{Hit, run}
@@ -13,20 +12,13 @@ use Rattle.laws.proofs.Hits.{run-one}
 use Rattle.cells.specs.Cells.{cellAssociatedToPoint}
 use Rattle.cells.specs.Lookup.{lookup}
 use Rattle.cells.specs.Stencil.{shiftAt}
-use Rattle.cells.specs.declared.Found.the-variants.{At, Absent}
+use Rattle.cells.specs.declared.Found.the-variants.{At}
 use Rattle.grid.specs.Nodes.{nodeAt, putNode, nodes, regionCells, reads, writes}
-use Rattle.grid.specs.Table.{all}
 use Rattle.grid.specs.declared.grid_node.GridNode.{GridNode}
-use Rattle.grid.proofs.Lengths.{and-split}
 use Rattle.particles.specs.Particles.{positionOf}
-use Rattle.particles.specs.Table.{isAt, listed}
 use Rattle.particles.specs.declared.particle.Particle.{Particle}
 use Rattle.scatter.specs.Hit.{Brought, brought, bodyOf, hitNode, changed}
 use Rattle.scatter.specs.Scatter.{onNode, shiftHits, regionHits, colouredHits}
-
--- a listed region is found
-pub found : (ids : List ℕ) (cell : ℕ) → listed ids cell ≡ true → lookup ids (region cell) ≡ Absent → ⊥
-found ids cell e a = true≢false (sym e ∙ ap isAt a)
 
 pub one-hit : (ids : List ℕ) (cell r : ℕ) (change : GridNode → GridNode) (s : Store) → lookup ids (region cell) ≡ At r
     → putNode s (r * regionCells + number dim2 cell) (change (nodeAt s (r * regionCells + number dim2 cell))) ≡ run nodes (onNode (lookup ids (region cell)) cell change) s
@@ -59,9 +51,3 @@ pub served : (h dt : Float) (gravity : List Float) (ids ranges : List ℕ) (part
     → run nodes (regionHits h dt gravity ids ranges particles r) s ≡ run nodes (colouredHits h dt gravity ids ranges particles c r) s
 unfolding colouredHits
 served h dt gravity ids ranges particles c r s e = rw e
-
--- every entry of a list that has it all
-pub all-at : {A : Type 0} (f : A → Bool) (l : List A) (k : ℕ) (d : A) → all f l ≡ true → k < length l → f (getD l k d) ≡ true
-all-at f [] k d e l = absurd (omega (arith, l))
-all-at f (x ∷ xs) zero d e l = and-split (f x) (all f xs) e .0
-all-at f (x ∷ xs) (suc k) d e l = all-at f xs k d (and-split (f x) (all f xs) e .1) (omega (arith, l))

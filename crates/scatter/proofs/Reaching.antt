@@ -24,10 +24,11 @@ use Rattle.grid.specs.Nodes.{regionCells}
 use Rattle.grid.specs.Table.{startOf, countOf}
 use Rattle.grid.specs.declared.grid_node.GridNode.{GridNode}
 use Rattle.particles.specs.Particles.{particleAt, positionOf}
-use Rattle.particles.specs.Table.{listed}
+use Rattle.particles.specs.Table.{listed, Reached, Ready}
 use Rattle.particles.specs.declared.particle.Particle.{Particle}
-use Rattle.scatter.specs.Scatter.{onNode, shiftHits, particleHits, rangeHits, regionHits, Reached, Ready}
-use Rattle.scatter.proofs.Hitting.{found, all-at}
+use Rattle.particles.proofs.Every.{all-at}
+use Rattle.particles.proofs.Staging.{found}
+use Rattle.scatter.specs.Scatter.{onNode, shiftHits, particleHits, rangeHits, regionHits}
 
 -- what holds at each place still does where less is asked
 in-mono : (P Q : ℕ → Type 0) (hs : List (Hit GridNode)) → ((k : ℕ) → P k → Q k) → In P hs → In Q hs

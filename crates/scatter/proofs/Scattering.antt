@@ -11,7 +11,8 @@ use Rattle.laws.specs.Hits.{Hit, Within, run}
 use Rattle.laws.proofs.Hits as Hits
 use Rattle.grid.specs.Nodes.{nodes, regionCells, reads, stores}
 use Rattle.grid.specs.declared.grid_node.GridNode.{GridNode}
-use Rattle.scatter.specs.Scatter.{colours, colouredHits, colourHits, scatterHits, regionHits, Ready, Laws, Acceptance}
+use Rattle.particles.specs.Table.{Ready}
+use Rattle.scatter.specs.Scatter.{colours, colouredHits, colourHits, scatterHits, regionHits, Laws, Acceptance}
 use Rattle.scatter.proofs.Reaching.{within-list}
 
 laws-within : (hits : List (Hit GridNode)) (n : ℕ) (s : Store) → nodes .Ok s n → Within n hits → Laws hits n s

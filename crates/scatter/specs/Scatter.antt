@@ -2,8 +2,8 @@
 -- the table. Definitions, and what is proved of them.
 -- Assumes nothing.
 use mathlib.Core.Path.{_≡_}
-use mathlib.Core.Bool.{true, cond}
-use mathlib.Core.List.{List, [], _∷_, _++_}
+use mathlib.Core.Bool.{cond}
+use mathlib.Core.List.{List, [], _∷_}
 use Prim.Native.Nat.{ℕ, _+_, _*_, _^_, _<_}
 use lib.Dec.{ltb}
 use lib.Ieee.{Float}
@@ -16,13 +16,12 @@ use Rattle.cells.specs.Lookup.{lookup}
 use Rattle.cells.specs.Stencil.{stencilCells, shiftAt}
 use Rattle.cells.specs.declared.Found.{Found}
 use Rattle.cells.specs.declared.Found.the-variants.{At, Absent}
-use Rattle.grid.specs.Answers.{first}
 use Rattle.grid.specs.Nodes.{nodeForm, nodeAt, nodes, regionCells}
-use Rattle.grid.specs.Table.{all, finite, goodWidth, goodStep, lengths, nodeLengths, limits, settings, codes, rangeWords, startOf, countOf}
+use Rattle.grid.specs.Table.{all, finite, goodWidth, goodStep, codes, startOf, countOf}
 use Rattle.grid.specs.declared.Answer.{Answer}
 use Rattle.grid.specs.declared.grid_node.GridNode.{GridNode}
-use Rattle.particles.specs.Particles.{particleForm, particleAt, positionOf}
-use Rattle.particles.specs.Table.{particleLengths, listed, checked, Accepted}
+use Rattle.particles.specs.Particles.{particleAt, positionOf}
+use Rattle.particles.specs.Table.{stageCheck}
 use Rattle.particles.specs.declared.particle.Particle.{Particle}
 use Rattle.scatter.specs.Hit.{changed}
 
@@ -78,34 +77,13 @@ module _ (h dt : Float) (gravity : List Float) (ids : List ℕ) where
 
 -- ---- what a call is refused for
 
--- 1 to 10; of the nodes, only how many floats and words there are. `own` is what is found of the call's own settings in 4, ahead of records; full scatter has none.
+-- h, dt and gravity are its settings. `own` is what is found of the call's own in 4, ahead of records; full scatter has none.
 unfoldable pub scatterCheck : Answer → Float → Float → List Float → ℕ → List ℕ → List ℕ → ℕ → Store → ℕ → ℕ → Answer
-scatterCheck own h dt gravity regions ids ranges count particles nf nw =
-    first (
-    lengths ((length ids, regions) ∷ (length ranges, regions * rangeWords) ∷ particleLengths count (length (particles .floats)) (length (particles .words)) ++ nodeLengths regions nf nw)
-    ∷ limits regions count 0
-    ∷ settings (goodWidth h ∷ goodStep dt ∷ all finite gravity ∷ [])
-    ∷ own
-    ∷ checked h ids ranges particles count
-    ∷ []
-    )
+scatterCheck own h dt gravity regions ids ranges count particles nf nw = stageCheck (goodWidth h ∷ goodStep dt ∷ all finite gravity ∷ []) own h regions ids ranges count particles nf nw
 
 -- one region's scatter has its place
 abbrev pub placeCheck : ℕ → ℕ → Answer
 placeCheck place regions = codes (ltb place regions ∷ [])
-
--- every region of a particle's stencil is listed
-abbrev pub Reached : Float → List ℕ → Particle → Type 0
-Reached h ids q = all (listed ids) (stencilOf dim2 (cellAssociatedToPoint dim2 h (positionOf q))) ≡ true
-
--- ---- what is proved where nothing is refused: what the hits build on
-
-pub record Ready (h : Float) (ids ranges : List ℕ) (particles s : Store) : Type 0 where
-  pub count : ℕ
-  pub ranges-long : length ranges ≡ length ids * rangeWords
-  pub particles-held : Holds particleForm particles count
-  pub nodes-held : Holds nodeForm s (length ids * regionCells)
-  pub accepted : Accepted h ids ranges particles count
 
 -- ---- what is proved of the hits of full scatter, and of those of one region
 

@@ -4,17 +4,11 @@ ghost use Rattle.numeric.specs.Axes.{axes};
 ghost use Rattle.laws.specs.Store.{store};
 ghost use Rattle.scatter.specs.Scatter.{scatterCheck};
 use grid::Answer;
-use grid::inner::RANGE_WORDS;
-use grid::inner::check_call;
-use grid::inner::check_limits;
-use grid::inner::fits;
-use grid::inner::holds_nodes;
 use grid::inner::is_finite_vector;
 use grid::inner::is_step;
 use grid::inner::is_width;
 use numeric::dim2::Vector;
-use particles::inner::checks::check_particles;
-use particles::inner::checks::holds_particles;
+use particles::inner::checks::check_stage;
 
 // What a call of scatter is refused for; `own` is what is found of its own settings in 4, ahead of records.
 pub fn check_scatter(
@@ -33,16 +27,17 @@ pub fn check_scatter(
 ) -> Answer
     ensures { λ a. ⌜ a ≡ scatterCheck own «cell_width» dt (axes gravity) regions (now (ids .entry)) (now (ranges .entry)) particles (store (now (pf .entry)) (now (pw .entry))) nf nw ⌝ }
 {
-    let a = check_call(
-        (ids.len() == regions)
-            & (fits(ranges.len(), regions, RANGE_WORDS)
-                & (holds_particles(particles, pf.len(), pw.len()) & holds_nodes(regions, nf, nw))),
-        check_limits(regions, particles, 0),
+    check_stage(
         is_width(cell_width) & (is_step(dt) & is_finite_vector(gravity)),
         own,
-    );
-    let Answer::Done = a else {
-        return a;
-    };
-    check_particles(cell_width, ids, ranges, pf, pw, particles)
+        cell_width,
+        regions,
+        ids,
+        ranges,
+        particles,
+        pf,
+        pw,
+        nf,
+        nw,
+    )
 }

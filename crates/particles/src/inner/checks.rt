@@ -7,7 +7,7 @@ ghost use Rattle.laws.specs.Store.{store};
 ghost use Rattle.packing.specs.Ids.{dim2};
 ghost use Rattle.grid.specs.Table.{all, matches, finite, rangeWords, Covers};
 ghost use Rattle.particles.specs.Particles.{particleFloats, particleWords};
-ghost use Rattle.particles.specs.Table.{particleLengths, badFlag, notFinite, onAxis, offGrid, outOfRegion, listed, unlisted, judged, firstParticle, outOfRegions, placed, checked};
+ghost use Rattle.particles.specs.Table.{particleLengths, badFlag, notFinite, onAxis, offGrid, outOfRegion, listed, unlisted, judged, firstParticle, outOfRegions, placed, checked, stageCheck};
 use crate::inner::read_particle;
 use crate::particle::PARTICLE_FLOATS;
 use crate::particle::PARTICLE_WORDS;
@@ -16,9 +16,13 @@ use cells::Found;
 use grid::Answer;
 use grid::Rule;
 use grid::inner::RANGE_WORDS;
+use grid::inner::check_call;
 use grid::inner::check_cover;
+use grid::inner::check_limits;
 use grid::inner::check_regions;
+use grid::inner::first_refusal;
 use grid::inner::fits;
+use grid::inner::holds_nodes;
 use grid::inner::is_finite;
 use grid::inner::is_finite_vector;
 use numeric::dim2::Matrix;
@@ -29,6 +33,36 @@ pub fn holds_particles(particles: usize, pf: usize, pw: usize) -> bool
     ensures { λ r. ⌜ r ≡ matches (particleLengths particles pf pw) ⌝ }
 {
     fits(pf, particles, PARTICLE_FLOATS) & fits(pw, particles, PARTICLE_WORDS)
+}
+
+// What a stage is refused for; `settings` says whether those in 3 are good, `own` is what is found of its own in 4, ahead of records.
+pub fn check_stage(
+    settings: bool,
+    own: Answer,
+    h: f32,
+    regions: usize,
+    ids: &[u64],
+    ranges: &[u64],
+    particles: usize,
+    pf: &[f32],
+    pw: &[u32],
+    nf: usize,
+    nw: usize,
+) -> Answer
+    ensures { λ a. ⌜ a ≡ stageCheck (settings ∷ []) own h regions (now (ids .entry)) (now (ranges .entry)) particles (store (now (pf .entry)) (now (pw .entry))) nf nw ⌝ }
+{
+    let a = check_call(
+        (ids.len() == regions)
+            & (fits(ranges.len(), regions, RANGE_WORDS)
+                & (holds_particles(particles, pf.len(), pw.len()) & holds_nodes(regions, nf, nw))),
+        check_limits(regions, particles, 0),
+        settings,
+        own,
+    );
+    let Answer::Done = a else {
+        return a;
+    };
+    check_particles(h, ids, ranges, pf, pw, particles)
 }
 
 // Numbers 4 to 10 of a call that takes particles in listed regions.
@@ -43,15 +77,13 @@ pub fn check_particles(
     requires { ⌜ (length (now ids) * rangeWords ≤ length (now ranges)) × (particles * particleFloats ≤ length (now pf)) × (particles * particleWords ≤ length (now pw)) ⌝ }
     ensures { λ a. ⌜ a ≡ checked h (now (ids .entry)) (now (ranges .entry)) (store (now (pf .entry)) (now (pw .entry))) particles ⌝ }
 {
-    let a = first_particle(Rule::Code, h, ids, 0, pf, pw, 0, particles);
-    let Answer::Done = a else {
-        return a;
-    };
-    let b = first_particle(Rule::NotFinite, h, ids, 0, pf, pw, 0, particles);
-    let Answer::Done = b else {
-        return b;
-    };
-    check_places(h, ids, ranges, pf, pw, particles)
+    first_refusal(
+        first_particle(Rule::Code, h, ids, 0, pf, pw, 0, particles),
+        first_refusal(
+            first_particle(Rule::NotFinite, h, ids, 0, pf, pw, 0, particles),
+            check_places(h, ids, ranges, pf, pw, particles),
+        ),
+    )
 }
 
 // Numbers 6 to 10: where the regions and the particles stand.

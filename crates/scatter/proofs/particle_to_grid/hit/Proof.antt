@@ -6,7 +6,8 @@ use native.Mathlib.Omega.{arith}
 use denote.Ref.{now}
 use Rattle.cells.specs.Lookup.{lookup}
 use Rattle.cells.proofs.Lookups.{laws}
-use Rattle.scatter.proofs.Hitting.{found, one-hit}
+use Rattle.particles.proofs.Staging.{found}
+use Rattle.scatter.proofs.Hitting.{one-hit}
 use Rattle.scatter.proofs.particle_to_grid.hit.Statement.{statement}
 use Rattle.scatter.proofs.particle_to_grid.hit.Tie as tie
 

@@ -14,7 +14,7 @@ returns : tie.Need-returns
 returns c = (c .before .before .check-scatter .ensures, settle-old _ _ _ (stops (c .before .before .check-scatter .result) (c .before .match .keys2)))
 
 scatter-colors-requires : tie.Need-scatter-colors-requires
-scatter-colors-requires c κs = ready _ _ _ _ _ _ _ _ _ _ _ (ap refused (sym (c .before .before .before .before .check-scatter .ensures) ∙ c .before .before .enum-told .given .1)) .3
+scatter-colors-requires c κs = ready _ _ _ _ _ _ _ _ _ _ _ (ap refused (sym (c .before .before .before .before .check-scatter .ensures) ∙ c .before .before .enum-told .given .1)) .ready
 
 returns-2 : tie.Need-returns-2
 unfolding scattered

@@ -8,8 +8,9 @@ use Rattle.numeric.specs.Axes.{axes}
 use Rattle.laws.specs.Store.{store}
 use Rattle.laws.proofs.Refusals.{settle-old}
 use Rattle.grid.proofs.Answers.{stops}
+use Rattle.particles.proofs.Staging.{range-there}
 use Rattle.scatter.specs.Scatter.{regionHits, regionScattered}
-use Rattle.scatter.proofs.Checking.{region-ready, range-there}
+use Rattle.scatter.proofs.Checking.{region-ready}
 use Rattle.scatter.proofs.particle_to_grid.particle_to_grid_scatter_region.Statement.{statement}
 use Rattle.scatter.proofs.particle_to_grid.particle_to_grid_scatter_region.Tie as tie
 
@@ -25,7 +26,7 @@ start-of-requires c κs =
     let r =
     region-ready (g .place) (c .before .before .before .check-place .result) (c .before .before .check-scatter .result) (g .cell-width) (g .dt) (axes (g .gravity)) (g .regions) (now (g .ids)) (now (g .ranges)) (g .particles)
     (store (now (g .pf)) (now (g .pw))) (now (g .nf)) (now (g .nw)) (c .before .before .before .check-place .ensures) (c .before .before .check-scatter .ensures) (c .enum-told .given .1) in
-    omega (arith, r .0, r .2 .ranges-long)
+    omega (arith, r .0, r .1 .ready .ranges-long)
 
 count-of-requires : tie.Need-count-of-requires
 count-of-requires c κs =
@@ -33,7 +34,7 @@ count-of-requires c κs =
     let r =
     region-ready (g .place) (c .before .before .before .before .check-place .result) (c .before .before .before .check-scatter .result) (g .cell-width) (g .dt) (axes (g .gravity)) (g .regions) (now (g .ids)) (now (g .ranges)) (g .particles)
     (store (now (g .pf)) (now (g .pw))) (now (g .nf)) (now (g .nw)) (c .before .before .before .before .check-place .ensures) (c .before .before .before .check-scatter .ensures) (c .before .enum-told .given .1) in
-    omega (arith, r .0, r .2 .ranges-long)
+    omega (arith, r .0, r .1 .ready .ranges-long)
 
 scatter-particles-requires : tie.Need-scatter-particles-requires
 scatter-particles-requires c κs =
@@ -41,7 +42,7 @@ scatter-particles-requires c κs =
     let r =
     region-ready (g .place) (c .before .before .before .before .before .before .before .check-place .result) (c .before .before .before .before .before .before .check-scatter .result) (g .cell-width) (g .dt) (axes (g .gravity)) (g .regions) (now (g .ids)) (now (g .ranges)) (g .particles)
     (store (now (g .pf)) (now (g .pw))) (now (g .nf)) (now (g .nw)) (c .before .before .before .before .before .before .before .check-place .ensures) (c .before .before .before .before .before .before .check-scatter .ensures) (c .before .before .before .before .enum-told .given .1) in
-    (omega (arith, range-there _ _ _ _ _ (r .2) (g .place) (r .0), r .1, c .before .before .before .start-of .ensures, c .before .before .count-of .ensures), r .2)
+    (omega (arith, range-there _ _ _ _ _ (r .1 .ready) (g .place) (r .0), r .1 .particles-long, c .before .before .before .start-of .ensures, c .before .before .count-of .ensures), r .1 .ready)
 
 returns-2 : tie.Need-returns-2
 unfolding regionScattered regionHits

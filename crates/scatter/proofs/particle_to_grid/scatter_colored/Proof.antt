@@ -5,7 +5,7 @@ use native.Mathlib.Omega.{arith}
 use borrow.Author.Needs.{needs}
 use Rattle.grid.proofs.Answers.{not-false, not-true}
 use Rattle.scatter.specs.Scatter.{regionHits}
-use Rattle.scatter.proofs.Checking.{range-there}
+use Rattle.particles.proofs.Staging.{range-there}
 use Rattle.scatter.proofs.Hitting.{skipped, served}
 use Rattle.scatter.proofs.particle_to_grid.scatter_colored.Statement.{statement}
 use Rattle.scatter.proofs.particle_to_grid.scatter_colored.Tie as tie

@@ -12,7 +12,7 @@ use Rattle.laws.specs.Hits.{run, gather}
 use Rattle.laws.proofs.Hits.{run-none, run-more}
 use Rattle.grid.specs.Nodes.{nodeForm, nodes, regionCells}
 use Rattle.scatter.specs.Scatter.{colours, colourHits, scatterHits}
-use Rattle.scatter.proofs.Checking.{still-ready}
+use Rattle.particles.proofs.Staging.{still-ready}
 use Rattle.scatter.proofs.particle_to_grid.scatter_colors.Statement.{statement}
 use Rattle.scatter.proofs.particle_to_grid.scatter_colors.Tie as tie
 

@@ -17,9 +17,10 @@ use Rattle.cells.specs.Stencil.{stencilCells}
 use Rattle.grid.specs.Nodes.{nodeForm, nodes, regionCells}
 use Rattle.particles.specs.Particles.{positionOf}
 use Rattle.particles.specs.Table.{listed}
+use Rattle.particles.proofs.Every.{all-at}
 use Rattle.scatter.specs.Hit.{broughtBy}
 use Rattle.scatter.specs.Scatter.{particleHits}
-use Rattle.scatter.proofs.Hitting.{cellHits, these-hits, all-at}
+use Rattle.scatter.proofs.Hitting.{cellHits, these-hits}
 use Rattle.scatter.proofs.particle_to_grid.scatter_particle.Statement.{statement}
 use Rattle.scatter.proofs.particle_to_grid.scatter_particle.Tie as tie
 
