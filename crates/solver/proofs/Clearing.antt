@@ -22,7 +22,7 @@ use Rattle.scatter.proofs.Scattering.{scatter-laws, region-laws}
 use Rattle.update.specs.Update.{updated, updateCheck, Zero}
 use Rattle.update.proofs.Updating as Updating
 use Rattle.solver.specs.Clearing.{Call, Scatter, answer, made, left, after, stencilId, nodeId, Reaches, Reached, stepCheck, stepped, EmptyElsewhere, Demand2}
-use Rattle.solver.specs.Clearing.Call.{clearing, scattering, scatteringRegion, scatteringInOrder, updating, inTurn}
+use Rattle.solver.specs.Clearing.Call.{clearing, scattering, scatteringRegion, scatteringInOrder, updating, inTurn, gatheringFirst, gatheringSecond}
 use Rattle.solver.proofs.Missing.{missed, region-missed}
 use Rattle.solver.proofs.Stepping.{counted, apart-done, step-done}
 use Rattle.solver.proofs.Turning.{turned}
@@ -50,8 +50,8 @@ module _ (ids : List ℕ) (r c : ℕ) (l : r < length ids) (u : c < regionCells)
   unfolding scattered
   kept-scatter g s kept e other =
       let q = ready Done (g .h) (g .dt) (g .gravity) (g .regions) ids (g .ranges) (g .count) (g .particles) (s .floats) (s .words) (ap refused e) in
-      let laws = scatter-laws (g .h) (g .dt) (g .gravity) ids (g .ranges) (g .particles) s (q .3) in
-      let miss = missed (g .h) (g .dt) (g .gravity) ids (g .ranges) (g .particles) s (q .3) r c u (λ p k v. other p k (omega (arith, v, q .2, q .3 .particles-held .floats-long))) in
+      let laws = scatter-laws (g .h) (g .dt) (g .gravity) ids (g .ranges) (g .particles) s (q .ready) in
+      let miss = missed (g .h) (g .dt) (g .gravity) ids (g .ranges) (g .particles) s (q .ready) r c u (λ p k v. other p k (omega (arith, v, q .particles-long, q .ready .particles-held .floats-long))) in
       record { held = laws .held; zero = subst Zero (sym (laws .untouched (r * regionCells + c) miss)) (kept .zero) }
 
   kept-update : (h dt : Float) (code locks count : ℕ) (colliders : List Float) (projections s : Store) → Kept s → Kept (updated h dt code locks ids count colliders projections s)
@@ -102,7 +102,7 @@ module _ (h dt : Float) (gravity : List Float) (code locks regions : ℕ) (ids r
   unfolding scattered
   full-room =
       scatter-laws h dt gravity ids ranges particles empty
-      (ready Done h dt gravity regions ids ranges count particles (empty .floats) (empty .words) (ap refused scatter-done) .3) .held
+      (ready Done h dt gravity regions ids ranges count particles (empty .floats) (empty .words) (ap refused scatter-done) .ready) .held
 
   update-done : updateCheck h dt code locks regions ids colliders frictions projections (length (full .floats)) (length (full .words)) ≡ Done
   update-done = other-nodes (updateCheck h dt code locks regions ids colliders frictions projections) s full places room full-room (three .2)
@@ -143,7 +143,7 @@ module _ (ids : List ℕ) (r c : ℕ) (l : r < length ids) (u : c < regionCells)
       kept-scatter ids r c l u g s kept e (λ p k v w i. other (record { accepted = e; particle = p; shift = k; served = v; within = w; there = i }))
   kept-made (scatteringRegion place g) s kept e other =
       let q = region-ready place (placeCheck place (g .regions)) Done (g .h) (g .dt) (g .gravity) (g .regions) ids (g .ranges) (g .count) (g .particles) (s .floats) (s .words) refl (sym e) refl in
-      let laws = region-laws (g .h) (g .dt) (g .gravity) ids (g .ranges) (g .particles) s (q .2) place (q .0) in
+      let laws = region-laws (g .h) (g .dt) (g .gravity) ids (g .ranges) (g .particles) s (q .1 .ready) place (q .0) in
       let miss = region-missed (g .h) (g .dt) (g .gravity) ids (g .ranges) (g .particles) place r c u
       (λ p k v w x i. other (record { accepted = e; particle = p; shift = k; served = (v, w); within = x; there = i })) in
       record { held = laws .held; zero = subst Zero (sym (laws .untouched (r * regionCells + c) miss)) (kept .zero) }
@@ -155,6 +155,8 @@ module _ (ids : List ℕ) (r c : ℕ) (l : r < length ids) (u : c < regionCells)
   kept-made (inTurn g code locks count colliders projections) s kept e other =
       kept-step (g .h) (g .dt) (g .gravity) code locks (g .regions) ids (g .ranges) (g .count) (g .particles) count colliders projections s e r c l u
       (λ p k v w i. other (record { accepted = e; particle = p; shift = k; served = v; within = w; there = i }))
+  kept-made (gatheringFirst g) s kept e other = kept
+  kept-made (gatheringSecond g) s kept e other = kept
 
   -- refused or not
   kept-left : (call : Call) (s : Store) → Kept ids r c l u s → (Reaches ids s call (nodeId ids r c) → ⊥) → Kept ids r c l u (left ids call s)

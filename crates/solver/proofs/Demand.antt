@@ -1,7 +1,7 @@
 -- Demand 3: the regions one by one, in an order in which each stands once and colours come in turn, leave what the full scatter leaves. Assumes nothing.
 use mathlib.Core.Path.{_≡_, refl, sym, ap, _∙_}
 use mathlib.Core.List.{List}
-use Prim.Native.Nat.{ℕ, zero, suc, _*_, _-_}
+use Prim.Native.Nat.{ℕ, zero, suc, _*_}
 use native.Mathlib.Numerals.{add-one}
 use lib.Ieee.{Float}
 use lib.ListN.{length}
@@ -34,12 +34,12 @@ pub same-bits : (order : List ℕ) (h dt : Float) (gravity : List Float) (region
 unfolding scattered scatterHits colourHits colouredHits
 same-bits order h dt gravity regions ids ranges count particles s accepted long e =
     let r = ready Done h dt gravity regions ids ranges count particles (s .floats) (s .words) (ap refused accepted) in
-    let n : length order ≡ length ids = long ∙ sym (r .1) in
+    let n : length order ≡ length ids = long ∙ sym (r .counted) in
     gathered h dt gravity ids ranges particles order (length order) s
     ∙ rw n
-    (laws nodes .in-turn (colourAt ids) (placeAt order) (regionHits h dt gravity ids ranges particles) (Hit-by h dt gravity ids ranges particles s (r .3)) colours (length ids)
-    (length ids * regionCells) s (turning ids order e n) (stores s (length ids * regionCells) .0 (r .3 .nodes-held))
-    (within-list h dt gravity ids ranges particles s (r .3)) (by-region h dt gravity ids ranges particles s (r .3)) (apart h dt gravity ids ranges particles s (r .3)))
+    (laws nodes .in-turn (colourAt ids) (placeAt order) (regionHits h dt gravity ids ranges particles) (Hit-by h dt gravity ids ranges particles s (r .ready)) colours (length ids)
+    (length ids * regionCells) s (turning ids order e n) (stores s (length ids * regionCells) .0 (r .ready .nodes-held))
+    (within-list h dt gravity ids ranges particles s (r .ready)) (by-region h dt gravity ids ranges particles s (r .ready)) (apart h dt gravity ids ranges particles s (r .ready)))
 
 pub demand3 : Demand3
 demand3 = record { turn = λ ids order n e. turning ids order e n; every-turn = let-through; same-bits = same-bits; each-accepted = region-accepted }

@@ -23,7 +23,8 @@ use Rattle.grid.specs.Table.{startOf, countOf}
 use Rattle.grid.specs.declared.grid_node.GridNode.{GridNode}
 use Rattle.particles.specs.Particles.{particleAt, positionOf}
 use Rattle.particles.specs.declared.particle.Particle.{Particle}
-use Rattle.scatter.specs.Scatter.{onNode, colours, shiftHits, particleHits, rangeHits, regionHits, colouredHits, colourHits, scatterHits, Ready}
+use Rattle.particles.specs.Table.{Ready}
+use Rattle.scatter.specs.Scatter.{onNode, colours, shiftHits, particleHits, rangeHits, regionHits, colouredHits, colourHits, scatterHits}
 use Rattle.solver.specs.Clearing.{stencilId, nodeId}
 
 -- a cell's hit stands at the cell's own place: where its region is found, and by its number

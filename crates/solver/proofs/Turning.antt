@@ -175,7 +175,7 @@ pub region-accepted : (order : List ℕ) (h dt : Float) (gravity : List Float) (
     → scatterCheck (placeCheck (placeAt order i) regions) h dt gravity regions ids ranges count particles (length (t .floats)) (length (t .words)) ≡ Done
 region-accepted order h dt gravity regions ids ranges count particles s t i e f w l =
     let turn = turned order h dt gravity regions ids ranges count particles (length (s .floats)) (length (s .words)) e in
-    let counted = ready Done h dt gravity regions ids ranges count particles (s .floats) (s .words) (ap refused (turn .accepted)) .1 in
+    let counted = ready Done h dt gravity regions ids ranges count particles (s .floats) (s .words) (ap refused (turn .accepted)) .counted in
     let there : placeAt order i < regions = omega (arith, place ids order (turn .in-turn) i l, counted) in
     let own : placeCheck (placeAt order i) regions ≡ Done = rw (lt-ltb (placeAt order i) regions there) in
     acceptance .by-lengths (placeCheck (placeAt order i) regions) h dt gravity regions ids ranges count particles t s f w

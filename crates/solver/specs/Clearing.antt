@@ -23,6 +23,7 @@ use Rattle.particles.specs.Particles.{particleAt, positionOf}
 use Rattle.particles.specs.Table.{particleLengths, firstParticle, placed}
 use Rattle.scatter.specs.Scatter.{scattered, regionScattered, placeCheck, scatterCheck}
 use Rattle.update.specs.Update.{colliderFloats, projectionFloats, updated, projectionLengths, ownCheck, updateCheck, Zero}
+use Rattle.gather.specs.Gather.{firstCheck, secondCheck}
 use Rattle.solver.specs.Order.{orderCheck}
 
 -- ---- clear, scatter, update, in this order
@@ -82,6 +83,22 @@ pub record Update : Type 0 where
   pub colliders : List Float
   pub projections : Store
 
+-- what the first half of a gather is given beside them
+pub record GatherFirst : Type 0 where
+  pub h : Float
+  pub dt : Float
+  pub modified : ℕ
+  pub regions : ℕ
+  pub ranges : List ℕ
+  pub count : ℕ
+  pub particles : Store
+
+-- what the second half is given, which takes neither the list nor the nodes
+pub record GatherSecond : Type 0 where
+  pub count : ℕ
+  pub particles : Store
+  pub given : Store
+
 pub data Call : Type 0 where
   clearing : ℕ → Call
   scattering : Scatter → Call
@@ -90,6 +107,9 @@ pub data Call : Type 0 where
   updating : Update → Call
   -- the three in turn, with a code, locks, colliders and projections
   inTurn : Scatter → ℕ → ℕ → ℕ → List Float → Store → Call
+  -- nodes to particles, two halves
+  gatheringFirst : GatherFirst → Call
+  gatheringSecond : GatherSecond → Call
 
 module _ (ids : List ℕ) where
   -- what a call answers, by its contract
@@ -102,8 +122,10 @@ module _ (ids : List ℕ) where
   answer (updating c) s = updateCheck (c .h) (c .dt) (c .code) (c .locks) (c .regions) ids (c .count) (c .colliders) (c .projections) (length (s .floats)) (length (s .words))
   answer (inTurn c code locks count colliders projections) s =
       stepCheck (c .h) (c .dt) (c .gravity) code locks (c .regions) ids (c .ranges) (c .count) (c .particles) count colliders projections (length (s .floats)) (length (s .words))
+  answer (gatheringFirst c) s = firstCheck (c .h) (c .dt) (c .modified) (c .regions) ids (c .ranges) (c .count) (c .particles) (length (s .floats)) (length (s .words))
+  answer (gatheringSecond c) s = secondCheck (c .count) (c .particles) (c .given)
 
-  -- what it makes of the nodes where it is not refused
+  -- what it makes of the nodes where it is not refused; gather reads the nodes and changes none: its contract lends them by `&`
   abbrev pub made : Call → Store → Store
   made (clearing regions) s = cleared regions s
   made (scattering c) s = scattered (c .h) (c .dt) (c .gravity) ids (c .ranges) (c .particles) s
@@ -111,6 +133,8 @@ module _ (ids : List ℕ) where
   made (scatteringInOrder order c) s = scattered (c .h) (c .dt) (c .gravity) ids (c .ranges) (c .particles) s
   made (updating c) s = updated (c .h) (c .dt) (c .code) (c .locks) ids (c .count) (c .colliders) (c .projections) s
   made (inTurn c code locks count colliders projections) s = stepped (c .h) (c .dt) (c .gravity) code locks (c .regions) ids (c .ranges) (c .count) (c .particles) count colliders projections s
+  made (gatheringFirst c) s = s
+  made (gatheringSecond c) s = s
 
   -- what it leaves, refused or not
   unfoldable pub left : Call → Store → Store
@@ -130,7 +154,7 @@ stencilId h particles p k = sum dim2 (cellAssociatedToPoint dim2 h (positionOf (
 abbrev pub nodeId : List ℕ → ℕ → ℕ → ℕ
 nodeId ids r c = cellOf dim2 (getD ids r 0) c
 
--- whether a call takes the particle p to the nodes
+-- whether a call takes the particle p to the nodes; gather goes from the nodes to the particles
 abbrev pub Served : Call → ℕ → Type 0
 Served (clearing regions) p = ⊥
 Served (scattering c) p = p < c .count
@@ -138,6 +162,8 @@ Served (scatteringRegion place c) p = (startOf (c .ranges) place ≤ p) × (p < 
 Served (scatteringInOrder order c) p = p < c .count
 Served (updating c) p = ⊥
 Served (inTurn c code locks count colliders projections) p = p < c .count
+Served (gatheringFirst c) p = ⊥
+Served (gatheringSecond c) p = ⊥
 
 -- the id that it takes a particle to by a shift; one that serves no particle takes none anywhere
 abbrev pub idOf : Call → ℕ → ℕ → ℕ
@@ -147,6 +173,8 @@ idOf (scatteringRegion place c) p k = stencilId (c .h) (c .particles) p k
 idOf (scatteringInOrder order c) p k = stencilId (c .h) (c .particles) p k
 idOf (updating c) p k = 0
 idOf (inTurn c code locks count colliders projections) p k = stencilId (c .h) (c .particles) p k
+idOf (gatheringFirst c) p k = 0
+idOf (gatheringSecond c) p k = 0
 
 -- an accepted call takes a particle to the id
 pub record Reaches (ids : List ℕ) (s : Store) (call : Call) (id : ℕ) : Type 0 where

@@ -1,11 +1,12 @@
 -- An input that the calls accept, by computing their definitions: three regions, of which the first and the last have one colour, and a particle in each; the first
--- particle stands at its region's edge, so that it and the second hit a common node. Computing goes through packing's definitions. Assumes nothing.
+-- particle stands at its region's edge, so that it and the second hit a common node. Then the first half of a gather, for two particles of one region. Computing goes through
+-- packing's definitions. Assumes nothing.
 use mathlib.Core.List.{List, [], _∷_, _++_, map}
 use mathlib.Core.Path.{_≡_, refl}
 use mathlib.Core.Bool.{Bool, true, false, not}
 use Prim.Native.Nat.{ℕ, zero, suc}
 use lib.Dec.{eqb}
-use lib.Ieee.{Float, binary32, neg, lt, le, ne, eq, round, toUnsigned, add, sub, mul, div, ofBits, ofInt}
+use lib.Ieee.{Float, binary32, neg, lt, le, ne, eq, round, toUnsigned, add, sub, mul, div, ofBits, toBits, ofInt}
 use lib.ListN.{length}
 use Rattle.packing.specs.Mask.{coord, place, count, coords, packed, sums, sumOf}
 use Rattle.packing.specs.Ids.{dim2, packedId, sum, region, number, fromFours, toFours, cellOf, colour, packedShifts, stencilOf}
@@ -25,12 +26,14 @@ use Rattle.grid.specs.Clear.{cleared}
 use Rattle.grid.specs.Table.{all, finite, flags, numbers, goodWidth, goodStep, badRegion, regionIds, before, misplaced, cover}
 use Rattle.grid.specs.declared.Answer.the-variants.{Done, Refused}
 use Rattle.grid.specs.declared.Rule.the-variants.{Length, Code}
-use Rattle.particles.specs.Particles.{particleAt}
+use Rattle.particles.specs.Particles as Particles
 use Rattle.particles.specs.Table.{badFlag, notFinite, onAxis, offGrid, outOfRegion, unlisted, judged, firstParticle, outOfRegions, placed, checked}
 use Rattle.scatter.specs.Scatter.{shiftHits, particleHits, rangeHits, regionHits, colouredHits, colourHits, scatterHits, scattered, scatterCheck, placeCheck}
 use Rattle.scatter.specs.Hit.{brought, hitBy, changed}
 use Rattle.update.specs.Boundary.{handled, collided}
 use Rattle.update.specs.Update.{lockedNode, afterColliders, updatedNode, regionUpdates, updates, updated}
+use Rattle.gather.specs.Transfer.{takenFrom, moved, advanced}
+use Rattle.gather.specs.Gather.{fromCell, fromCells, taken, firstChange, changes, firstHalf, firstCheck}
 use Rattle.solver.specs.Order.{repeated, outOfTurn, turns, orderCheck}
 use Rattle.solver.specs.Clearing.{stencilId, nodeId, recordsCheck, stepCheck, stepped}
 
@@ -63,6 +66,26 @@ frictions = one ∷ []
 abbrev projections : Store
 projections = store (many 96 none) (many 48 0)
 
+-- two particles of region 0, each at (1, 1) with mass 1, phase 1, factor 1, threshold 35, the rest 0
+abbrev twice : {A : Type 0} → List A → List A
+twice xs = xs ++ xs
+
+abbrev pair : Store
+pair = store (twice (one ∷ one ∷ many 10 none ++ (one ∷ none ∷ one ∷ one ∷ many 5 none ++ (ofBits binary32 0x420c0000 ∷ many 4 none)))) (many 8 0)
+
+-- a node with a velocity along x, a psi momentum and a psi mass
+abbrev held : Float → Float → Float → List Float
+held u momentum mass = none ∷ none ∷ none ∷ u ∷ none ∷ momentum ∷ mass ∷ []
+
+-- region 0: 64 at (0, 0) and (2, 0), psi momentum 64 and psi mass 1 at (1, 1), -(2 ^ 30) at (0, 2), 2 ^ 30 at (2, 2)
+abbrev moving : Store
+moving =
+    let u = ofBits binary32 0x42800000 in
+    let most = ofBits binary32 0x4e800000 in
+    store
+    (held u none none ++ (many 7 none ++ (held u none none ++ (many 14 none ++ (held none u one ++ (many 14 none ++ (held (neg most) none none ++ (many 7 none ++ (held most none none ++ many 35 none)))))))))
+    (many 16 0)
+
 -- whether no particle's stencil has the cell c of the region at r
 abbrev missed : ℕ → ℕ → Bool
 missed r c = all (λ (p : ℕ). all (λ (k : ℕ). not (eqb (stencilId one particles p k) (nodeId ids r c))) (0 ∷ 1 ∷ 2 ∷ 3 ∷ 4 ∷ 5 ∷ 6 ∷ 7 ∷ 8 ∷ [])) (0 ∷ 1 ∷ 2 ∷ [])
@@ -87,7 +110,12 @@ pub record Values : Type 0 where
   -- from nodes of ones they leave the one the mass 6/64 of the first particle and 1/64 of the second, and the other none
   pub masses : map (λ (k : ℕ). nodeAt (stepped one one still 0 0 3 ids ranges 3 particles 1 frictions projections (store (many 336 one) (many 48 1))) k .mass) (16 ∷ 31 ∷ [])
       ≡ ofBits binary32 0x3de00000 ∷ none ∷ []
+  -- the first half is accepted with modified eigenerosion off and on, and not with 2
+  pub gathers : map (λ (modified : ℕ). firstCheck one one modified 1 (0 ∷ []) (0 ∷ 2 ∷ []) 2 pair 112 16) (0 ∷ 1 ∷ 2 ∷ []) ≡ Done ∷ Done ∷ Refused Code 0 ∷ []
+  -- nodes in stencil order, so that 2 ^ 24 + 1 - 2 ^ 24 + 1 is 1 along x; x = (2, 1), v = (1, 0), G = (2 ^ 27 -8, 0 0), and p = 36 is above 35: with it on, no phase is left
+  pub gathered : map (λ (modified : ℕ). map (toBits binary32) (firstHalf one one modified (0 ∷ []) moving 2 pair .floats)) (1 ∷ 0 ∷ [])
+      ≡ map (λ (phase : ℕ). twice (0x40000000 ∷ 0x3f800000 ∷ 0x3f800000 ∷ 0 ∷ 0x4d000000 ∷ 0xc1000000 ∷ many 6 0 ++ (0x3f800000 ∷ 0 ∷ phase ∷ 0x3f800000 ∷ many 5 0 ++ (0x420c0000 ∷ many 4 0)))) (0 ∷ 0x3f800000 ∷ [])
 
 pub values : Values
-unfolding stepped updated updates regionUpdates updatedNode lockedNode afterColliders collided handled scattered scatterHits cleared run hit nodes records nodeAt changed hitBy brought dirToAssociatedGridNode precomputeWeights evalAll invD inverse ne eq neg add sub mul ofInt stepCheck recordsCheck flags numbers scatterCheck orderCheck turns outOfTurn repeated checked placed judged firstParticle outOfRegions badFlag notFinite onAxis offGrid outOfRegion unlisted particleAt finite goodWidth goodStep badRegion regionIds before misplaced cover Refusals.firstOf cellAssociatedToPoint regionAssociatedToPoint lookup searched left narrowed halved shiftHits particleHits rangeHits regionHits colouredHits colourHits only gather packedId packed place sum sumOf sums coords coord count dim2 region number fromFours colour packedShifts stencilOf roundAway round toUnsigned lt le div ofBits cellOf toFours
-values = record { colours = refl; accepted = refl; regions = refl; orders = refl; shared = refl; steps = refl; short = refl; reached = refl; unreached = (refl, refl); masses = refl }
+unfolding firstCheck firstHalf changes firstChange advanced moved taken fromCells fromCell takenFrom stepped updated updates regionUpdates updatedNode lockedNode afterColliders collided handled scattered scatterHits cleared run hit nodes records nodeAt changed hitBy brought dirToAssociatedGridNode precomputeWeights evalAll invD inverse ne eq neg add sub mul ofInt stepCheck recordsCheck flags numbers scatterCheck orderCheck turns outOfTurn repeated checked placed judged firstParticle outOfRegions badFlag notFinite onAxis offGrid outOfRegion unlisted Particles.particleAt Particles.particles finite goodWidth goodStep badRegion regionIds before misplaced cover Refusals.firstOf cellAssociatedToPoint regionAssociatedToPoint lookup searched left narrowed halved shiftHits particleHits rangeHits regionHits colouredHits colourHits only gather packedId packed place sum sumOf sums coords coord count dim2 region number fromFours colour packedShifts stencilOf roundAway round toUnsigned lt le div ofBits toBits cellOf toFours
+values = record { colours = refl; accepted = refl; regions = refl; orders = refl; shared = refl; steps = refl; short = refl; reached = refl; unreached = (refl, refl); masses = refl; gathers = refl; gathered = refl }

@@ -17,6 +17,7 @@ use grid::inner::check_call;
 use grid::inner::check_flags;
 use grid::inner::check_limits;
 use grid::inner::check_numbers;
+use grid::inner::first_refusal;
 use grid::inner::fits;
 use grid::inner::holds_nodes;
 use grid::inner::is_finite_vector;
@@ -163,25 +164,20 @@ fn check_records(
     requires { ⌜ (length (now ids) * rangeWords ≤ length (now ranges)) × (particles * particleFloats ≤ length (now pf)) × (particles * particleWords ≤ length (now pw)) ⌝ }
     ensures { λ a. ⌜ a ≡ recordsCheck «cell_width» (now (ids .entry)) (now (ranges .entry)) particles (store (now (pf .entry)) (now (pw .entry))) (now (cf .entry)) (store (now (jf .entry)) (now (jw .entry))) ⌝ }
 {
-    let a = first_particle(Rule::Code, cell_width, ids, 0, pf, pw, 0, particles);
-    let Answer::Done = a else {
-        return a;
-    };
-    let b = check_flags(jw);
-    let Answer::Done = b else {
-        return b;
-    };
-    let c = first_particle(Rule::NotFinite, cell_width, ids, 0, pf, pw, 0, particles);
-    let Answer::Done = c else {
-        return c;
-    };
-    let d = check_numbers(cf, COLLIDER_FLOATS);
-    let Answer::Done = d else {
-        return d;
-    };
-    let e = check_numbers(jf, PROJECTION_FLOATS);
-    let Answer::Done = e else {
-        return e;
-    };
-    check_places(cell_width, ids, ranges, pf, pw, particles)
+    first_refusal(
+        first_particle(Rule::Code, cell_width, ids, 0, pf, pw, 0, particles),
+        first_refusal(
+            check_flags(jw),
+            first_refusal(
+                first_particle(Rule::NotFinite, cell_width, ids, 0, pf, pw, 0, particles),
+                first_refusal(
+                    check_numbers(cf, COLLIDER_FLOATS),
+                    first_refusal(
+                        check_numbers(jf, PROJECTION_FLOATS),
+                        check_places(cell_width, ids, ranges, pf, pw, particles),
+                    ),
+                ),
+            ),
+        ),
+    )
 }

@@ -1,0 +1,82 @@
+-- The checks of both halves in the steps in which the code makes them, and what they have shown where they refuse nothing. Assumes nothing.
+use mathlib.Core.Path.{_≡_, ap, _∙_}
+use mathlib.Core.Bool.{Bool, true, false, _&&_, not}
+use mathlib.Core.List.{List, [], _∷_}
+use Prim.Native.Nat.{ℕ, _*_, _<_}
+use native.Mathlib.Omega.{arith}
+use lib.Dec.{eqb}
+use lib.Ieee.{Float}
+use lib.ListN.{length}
+use borrow.Author.Tests.{eqb-true}
+use Rattle.laws.specs.Store.{Store, store, Holds}
+use Rattle.laws.proofs.Refusals.{unless-passed}
+use Rattle.grid.specs.Answers.{refused, refuse, unless}
+use Rattle.grid.specs.Nodes.{nodeForm, regionCells}
+use Rattle.grid.specs.Table.{matches, limits, goodWidth, goodStep, called, codes, isFlag}
+use Rattle.grid.specs.declared.Answer.the-variants.{Done}
+use Rattle.grid.specs.declared.Rule.the-variants.{Length}
+use Rattle.grid.proofs.Lengths.{and-split, regroup}
+use Rattle.grid.proofs.Steps.{called-then, passed}
+use Rattle.particles.specs.Particles.{particleFloats, particleWords, particleForm, particleAt}
+use Rattle.particles.specs.Table.{particleLengths, Reached}
+use Rattle.particles.proofs.Staging.{staged}
+use Rattle.gather.specs.Gather.{givenFloats, givenWords, givenLengths, firstCheck, recordsCheck, secondCheck}
+
+-- a first half that is not refused has all that it builds on
+pub record FirstReady (h : Float) (ids : List ℕ) (count : ℕ) (s nodes : Store) : Type 0 where
+  pub particles-held : Holds particleForm s count
+  pub nodes-held : Holds nodeForm nodes (length ids * regionCells)
+  pub stencils : (p : ℕ) → p < count → Reached h ids (particleAt s p)
+
+pub first-ready : (h dt : Float) (modified regions : ℕ) (ids ranges : List ℕ) (count : ℕ) (s : Store) (nf : List Float) (nw : List ℕ)
+    → refused (firstCheck h dt modified regions ids ranges count s (length nf) (length nw)) ≡ false → FirstReady h ids count s (store nf nw)
+unfolding firstCheck
+first-ready h dt modified regions ids ranges count s nf nw e =
+    let r = staged (goodWidth h ∷ goodStep dt ∷ []) (codes (isFlag modified ∷ [])) h regions ids ranges count s nf nw e in
+    let held = r .ready .particles-held in
+    let same : r .ready .count ≡ count = omega (arith, r .particles-long, held .floats-long) in
+    record {
+      particles-held = record { floats-long = r .particles-long; words-long = omega (arith, same, held .words-long) };
+      nodes-held = r .ready .nodes-held;
+      stencils = λ p l. r .ready .accepted .stencils p (omega (arith, l, same));
+    }
+
+module _ (count : ℕ) (s given : Store) where
+  -- whether all lengths match, as the code asks
+  abbrev pub fitting : Bool
+  fitting = matches (particleLengths count (length (s .floats)) (length (s .words))) && matches (givenLengths count (length (given .floats)) (length (given .words)))
+
+  pub check-is : secondCheck count s given ≡ unless (called fitting (limits 0 count 0) true Done) (recordsCheck count s given)
+  unfolding secondCheck
+  check-is =
+      let l = regroup (eqb (length (s .floats)) (count * particleFloats)) (eqb (length (s .words)) (count * particleWords)) (matches (givenLengths count (length (given .floats)) (length (given .words)))) in
+      ap (λ (x : Bool). unless (refuse (not x) Length 0) (unless (limits 0 count 0) (unless (recordsCheck count s given) Done))) l
+      ∙ called-then fitting (limits 0 count 0) true Done (recordsCheck count s given)
+
+  -- ---- what the second half's has shown
+
+  pub record Fitted : Type 0 where
+    pub particles-held : Holds particleForm s count
+    pub floats-long : length (given .floats) ≡ count * givenFloats
+    pub words-long : length (given .words) ≡ count * givenWords
+
+  pub fitted : fitting ≡ true → Fitted
+  fitted e =
+      let particles = matches (particleLengths count (length (s .floats)) (length (s .words))) in
+      let a = and-split particles (matches (givenLengths count (length (given .floats)) (length (given .words)))) e in
+      let b = and-split (eqb (length (s .floats)) (count * particleFloats)) (eqb (length (s .words)) (count * particleWords) && true) (a .0) in
+      let c = and-split (eqb (length (given .floats)) (count * givenFloats)) (eqb (length (given .words)) (count * givenWords) && true) (a .1) in
+      record {
+        particles-held = record {
+          floats-long = eqb-true (length (s .floats)) (count * particleFloats) (b .0);
+          words-long = eqb-true (length (s .words)) (count * particleWords) (and-split (eqb (length (s .words)) (count * particleWords)) true (b .1) .0);
+        };
+        floats-long = eqb-true (length (given .floats)) (count * givenFloats) (c .0);
+        words-long = eqb-true (length (given .words)) (count * givenWords) (and-split (eqb (length (given .words)) (count * givenWords)) true (c .1) .0);
+      }
+
+  pub second-fitted : refused (secondCheck count s given) ≡ false → Fitted
+  second-fitted e =
+      let first = called fitting (limits 0 count 0) true Done in
+      let steps : refused (unless first (recordsCheck count s given)) ≡ false = rw check-is at e in
+      fitted (passed fitting (limits 0 count 0) true Done (unless-passed refused first (recordsCheck count s given) steps .0) .lengths)

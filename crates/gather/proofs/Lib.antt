@@ -1,0 +1,4 @@
+pub mod Checking
+pub mod Flags
+pub mod Gathering
+pub mod Taking

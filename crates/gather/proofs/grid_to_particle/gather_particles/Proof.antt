@@ -1,0 +1,63 @@
+-- `gather::grid_to_particle::gather_particles` meets its contract: the particles below p are changed, and the others as they were.
+-- Assumes nothing.
+use mathlib.Core.Path.{_≡_, ap, _∙_}
+use Prim.Native.Nat.{ℕ, _-_, _≤_}
+use native.Mathlib.Omega.{arith}
+use borrow.Author.Needs.{needs}
+use denote.Ref.{now}
+use Rattle.laws.specs.Store.{Store, store, Holds}
+use Rattle.laws.specs.Hits.{run, gather}
+use Rattle.laws.proofs.Hits.{run-none, run-more}
+use Rattle.particles.specs.Particles.{particleForm, particleAt, particles}
+use Rattle.particles.specs.declared.particle.Particle.{Particle}
+use Rattle.gather.specs.Gather.{firstChange, changeAt, changes, firstHalf}
+use Rattle.gather.proofs.Gathering.{one-change, untouched}
+use Rattle.gather.proofs.grid_to_particle.gather_particles.Statement.{statement}
+use Rattle.gather.proofs.grid_to_particle.gather_particles.Tie as tie
+
+abbrev Inv-loop : tie.InvT-loop
+Inv-loop h dt modified ids n pf₀ pw₀ nf nw p₀ pf pw p =
+    (p ≤ n) × Holds particleForm (store pf pw) n
+    × (store pf pw ≡ run particles (gather (changeAt (λ (i : ℕ). firstChange h ids (store nf nw) dt modified)) p) (store pf₀ pw₀))
+
+abbrev μ-loop : tie.MeasureT-loop
+μ-loop h dt modified ids n pf₀ pw₀ nf nw p₀ pf pw p = n - p
+
+loop-holds : tie.Need-loop-holds Inv-loop μ-loop
+loop-holds c = (omega arith, c .before .before .before .before .before .pre .0, run-none particles _ _)
+
+read-particle-requires : tie.Need-read-particle-requires Inv-loop μ-loop
+read-particle-requires c κs = let held = c .before .before .before .loop .inv .1 in (omega (arith, held .floats-long), omega (arith, held .words-long))
+
+take-requires : tie.Need-take-requires Inv-loop μ-loop
+take-requires c κs =
+    let l = c .before .before .before .before .loop in
+    let pre = c .before .before .before .before .before .before .before .before .before .before .pre in
+    let same = ap (λ (s : Store). particleAt s (l .p)) (l .inv .2) ∙ untouched _ _ _ (l .p) (pre .0) (omega arith) in
+    (rw (c .read-particle .ensures, same) (pre .2 (l .p) (omega arith)), pre .1)
+
+write-particle-requires : tie.Need-write-particle-requires Inv-loop μ-loop
+write-particle-requires c κs = let held = c .before .before .before .before .before .before .before .before .loop .inv .1 in (omega (arith, held .floats-long), omega (arith, held .words-long))
+
+add-p : tie.Need-add-p Inv-loop μ-loop
+add-p c = omega (arith, c .before .before .before .before .before .before .before .before .before .before .before .before .before .before .before .before .before .before .before .fits .particles)
+
+loop-again : tie.Need-loop-again Inv-loop μ-loop
+unfolding firstChange
+loop-again c =
+    let l = c .before .before .before .before .before .before .before .before .before .before .before .before .before .loop in
+    let kept = c .before .before .before .before .write-particle .kept in
+    let g = c .before .before .before .before .before .before .before .before .before .before .before .before .before .before .before .before .before .before .before .args in
+    let change : ℕ → Particle → Particle = λ (i : ℕ). firstChange (g .cell-width) (now (g .ids)) (store (now (g .nf)) (now (g .nw))) (g .dt) (g .modified-eigenerosion) in (
+      omega arith,
+      record { floats-long = omega (arith, l .inv .1 .floats-long, kept); words-long = omega (arith, l .inv .1 .words-long, kept) },
+      run-more particles (changeAt change) _ _ (l .inv .2)
+          (c .before .before .before .before .write-particle .ensures ∙ rw (c .before .before .before .before .before .advance .ensures, c .before .before .before .before .before .before .before .before .take .ensures, c .before .before .before .before .before .before .before .before .before .read-particle .ensures) (one-change change (l .p) _)),
+    )
+
+returns : tie.Need-returns Inv-loop μ-loop
+unfolding firstHalf changes
+returns c = let e : c .before .loop .p ≡ c .before .before .before .before .before .before .before .args .particles = omega arith in c .before .loop .inv .2 ∙ rw e
+
+pub gather-particles-spec : {M : Type 1} → statement M
+gather-particles-spec = tie.close (tie.spec Inv-loop μ-loop loop-holds read-particle-requires take-requires (λ c κs. search needs) write-particle-requires add-p (λ c. search needs) loop-again (λ c. search needs) (λ c. search needs) returns)

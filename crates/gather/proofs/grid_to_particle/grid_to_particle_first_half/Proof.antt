@@ -1,0 +1,24 @@
+-- `gather::grid_to_particle::grid_to_particle_first_half` meets its contract.
+-- Assumes nothing.
+use mathlib.Core.Path.{sym, ap, _∙_}
+use borrow.Author.Needs.{needs}
+use Rattle.laws.proofs.Refusals.{settle-old}
+use Rattle.grid.specs.Answers.{refused}
+use Rattle.grid.proofs.Answers.{stops}
+use Rattle.gather.proofs.Checking.{first-ready}
+use Rattle.gather.proofs.grid_to_particle.grid_to_particle_first_half.Statement.{statement}
+use Rattle.gather.proofs.grid_to_particle.grid_to_particle_first_half.Tie as tie
+
+returns : tie.Need-returns
+returns c = (c .before .before .check-first-half .ensures, settle-old _ _ _ (stops (c .before .before .check-first-half .result) (c .before .match .keys2)))
+
+gather-particles-requires : tie.Need-gather-particles-requires
+gather-particles-requires c κs =
+    let r = first-ready _ _ _ _ _ _ _ _ _ _ (ap refused (sym (c .before .before .before .before .check-first-half .ensures) ∙ c .before .before .enum-told .given .1)) in
+    (r .particles-held, r .nodes-held, r .stencils)
+
+returns-2 : tie.Need-returns-2
+returns-2 c = (sym (c .before .before .before .before .before .before .before .enum-told .given .1) ∙ c .before .before .before .before .before .before .before .before .before .check-first-half .ensures, c .before .before .before .before .gather-particles .ensures)
+
+pub grid-to-particle-first-half-spec : {M : Type 1} → statement M
+grid-to-particle-first-half-spec = tie.close (tie.spec (λ c κs. search needs) (λ c. search needs) (λ c. search needs) (λ c. search needs) (λ c. search needs) returns gather-particles-requires (λ c. search needs) (λ c. search needs) returns-2)

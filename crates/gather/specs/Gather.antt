@@ -1,0 +1,160 @@
+-- Document 01, "Gather": both halves, of every particle; what a call of each is refused for, in the order of the table. Definitions, and what is proved of them.
+-- Assumes nothing.
+use mathlib.Core.Path.{_≡_}
+use mathlib.Core.List.{List, [], _∷_, _++_}
+use Prim.Native.Nat.{ℕ, zero, suc, _+_, _*_, _<_}
+use lib.Ieee.{Float, nan}
+use lib.ListN.{length, getD}
+use Rattle.packing.specs.Ids.{dim2, region, number, stencilOf}
+use Rattle.numeric.specs.Bits.{none}
+use Rattle.laws.specs.Store.{Store, Holds}
+use Rattle.laws.specs.Hits.{Hit, run, gather}
+use Rattle.cells.specs.Cells.{cellAssociatedToPoint}
+use Rattle.cells.specs.Lookup.{lookup}
+use Rattle.cells.specs.Stencil.{stencilCells, shiftAt, dirToAssociatedGridNode}
+use Rattle.cells.specs.declared.Found.{Found}
+use Rattle.cells.specs.declared.Found.the-variants.{At, Absent}
+use Rattle.grid.specs.Answers.{first}
+use Rattle.grid.specs.Nodes.{nodeAt, regionCells}
+use Rattle.grid.specs.Table.{lengths, limits, goodWidth, goodStep, codes, isFlag, flags, numbers}
+use Rattle.grid.specs.declared.Answer.{Answer}
+use Rattle.grid.specs.declared.Rule.the-variants.{Code, NotFinite}
+use Rattle.grid.specs.declared.grid_node.GridNode.{GridNode}
+use Rattle.particles.specs.Particles.{particleForm, particleAt, particles, positionOf}
+use Rattle.particles.specs.Table.{particleLengths, firstParticle, stageCheck}
+use Rattle.particles.specs.declared.particle.Particle.{Particle}
+use Rattle.gather.specs.Transfer.{Taken, Given, nothing, takenFrom, on, nodeOf, advanced, finished}
+
+-- ---- the first half
+
+-- from the node of a cell: 16 nodes for each listed region, by the cell's number in its region; a region that is not listed has none
+abbrev pub fromNode : Store → Found → ℕ → (GridNode → Taken → Taken) → Taken → Taken
+fromNode nodes (At r) cell take a = take (nodeAt nodes (r * regionCells + number dim2 cell)) a
+fromNode nodes Absent cell take a = a
+
+module _ (h : Float) (ids : List ℕ) (nodes : Store) where
+  -- from the k-th cell of a stencil
+  unfoldable pub fromCell : List Float → List ℕ → ℕ → Taken → Taken
+  fromCell dir stencil k a =
+      let cell = getD stencil k 0 in
+      fromNode nodes (lookup ids (region cell)) cell (λ (n : GridNode). takenFrom h dir (shiftAt dim2 k) (nodeOf n)) a
+
+  -- from +0, in stencil order, from the first n cells
+  unfoldable pub fromCells : List Float → List ℕ → ℕ → Taken
+  fromCells dir stencil zero = nothing dir
+  fromCells dir stencil (suc n) = fromCell dir stencil n (fromCells dir stencil n)
+
+  -- by a particle at a place
+  unfoldable pub taken : List Float → Taken
+  taken position = fromCells (dirToAssociatedGridNode h position) (stencilOf dim2 (cellAssociatedToPoint dim2 h position)) stencilCells
+
+  -- what becomes of a particle
+  unfoldable pub firstChange : Float → ℕ → Particle → Particle
+  firstChange dt modified q = advanced (on modified) h dt (taken (positionOf q)) q
+
+-- ---- the second half
+
+-- what is given for a particle, in lent memory: density and energy, and whether its model says that it failed
+abbrev pub givenFloats : ℕ
+givenFloats = 2
+
+abbrev pub givenWords : ℕ
+givenWords = 1
+
+abbrev pub givenAt : Store → ℕ → Given
+givenAt s p =
+    record {
+      density = getD (s .floats) (p * givenFloats) nan;
+      energy = getD (s .floats) (p * givenFloats + 1) nan;
+      failed = on (getD (s .words) (p * givenWords) 0);
+    }
+
+unfoldable pub secondChange : Store → ℕ → Particle → Particle
+secondChange given p q = finished (givenAt given p) q
+
+-- ---- of every particle
+
+-- one change at a place
+abbrev pub changeAt : (ℕ → Particle → Particle) → ℕ → List (Hit Particle)
+changeAt change p = record { at = p; change = change p } ∷ []
+
+-- the first n particles, each changed by its place
+unfoldable pub changes : (ℕ → Particle → Particle) → ℕ → List (Hit Particle)
+changes change n = gather (changeAt change) n
+
+unfoldable pub firstHalf : Float → Float → ℕ → List ℕ → Store → ℕ → Store → Store
+firstHalf h dt modified ids nodes count s = run particles (changes (λ (p : ℕ). firstChange h ids nodes dt modified) count) s
+
+unfoldable pub secondHalf : Store → ℕ → Store → Store
+secondHalf given count s = run particles (changes (secondChange given) count) s
+
+-- ---- what a call is refused for
+
+-- 1 to 10: h and dt are the first half's settings, and modified eigenerosion is its own in 4; of the nodes, only how many floats and words there are
+unfoldable pub firstCheck : Float → Float → ℕ → ℕ → List ℕ → List ℕ → ℕ → Store → ℕ → ℕ → Answer
+firstCheck h dt modified regions ids ranges count s nf nw = stageCheck (goodWidth h ∷ goodStep dt ∷ []) (codes (isFlag modified ∷ [])) h regions ids ranges count s nf nw
+
+-- a record for each particle
+abbrev pub givenLengths : ℕ → ℕ → ℕ → List (ℕ × ℕ)
+givenLengths count gf gw = (gf, count * givenFloats) ∷ (gw, count * givenWords) ∷ []
+
+-- 4 and 5 of the second half's records: the particles, then what is given. These two rules look neither at h nor at a list of regions.
+unfoldable pub recordsCheck : ℕ → Store → Store → Answer
+recordsCheck count s given =
+    first (
+    firstParticle Code none [] 0 s 0 count
+    ∷ flags (given .words)
+    ∷ firstParticle NotFinite none [] 0 s 0 count
+    ∷ numbers givenFloats (given .floats)
+    ∷ []
+    )
+
+-- 1, 2, 4 and 5
+unfoldable pub secondCheck : ℕ → Store → Store → Answer
+secondCheck count s given =
+    first (
+    lengths (particleLengths count (length (s .floats)) (length (s .words)) ++ givenLengths count (length (given .floats)) (length (given .words)))
+    ∷ limits 0 count 0
+    ∷ recordsCheck count s given
+    ∷ []
+    )
+
+-- ---- what is proved of both
+
+-- fields that the first half does not name
+pub record FirstKeeps (a b : Particle) : Type 0 where
+  pub stress : a .stress ≡ b .stress
+  pub mass : a .mass ≡ b .mass
+  pub volume0 : a .volume0 ≡ b .volume0
+  pub crack : a .«crack_propagation_factor» ≡ b .«crack_propagation_factor»
+  pub psi : a .«psi_pos» ≡ b .«psi_pos»
+  pub threshold : a .«crack_threshold» ≡ b .«crack_threshold»
+  pub parameter1 : a .parameter1 ≡ b .parameter1
+  pub parameter2 : a .parameter2 ≡ b .parameter2
+  pub kinematicVelocity : a .«kinematic_vel» ≡ b .«kinematic_vel»
+  pub flags : particleForm .wordsOf a ≡ particleForm .wordsOf b
+
+-- and those that the second does not
+pub record SecondKeeps (a b : Particle) : Type 0 where
+  pub position : a .position ≡ b .position
+  pub stress : a .stress ≡ b .stress
+  pub mass : a .mass ≡ b .mass
+  pub volume0 : a .volume0 ≡ b .volume0
+  pub crack : a .«crack_propagation_factor» ≡ b .«crack_propagation_factor»
+  pub threshold : a .«crack_threshold» ≡ b .«crack_threshold»
+  pub kinematicVelocity : a .«kinematic_vel» ≡ b .«kinematic_vel»
+  pub kinematic : a .kinematic ≡ b .kinematic
+  pub fluid : a .fluid ≡ b .fluid
+  pub static : a .«is_static» ≡ b .«is_static»
+
+pub record Laws (s : Store) (n : ℕ) : Type 0 where
+  -- Every particle is changed, once, from what it held before the call.
+  pub first : (h dt : Float) (modified : ℕ) (ids : List ℕ) (nodes : Store) (p : ℕ) → p < n
+      → particleAt (firstHalf h dt modified ids nodes n s) p ≡ firstChange h ids nodes dt modified (particleAt s p)
+  pub second : (given : Store) (p : ℕ) → p < n → particleAt (secondHalf given n s) p ≡ secondChange given p (particleAt s p)
+  -- What a half does not name stays.
+  pub first-keeps : (h dt : Float) (modified : ℕ) (ids : List ℕ) (nodes : Store) (p : ℕ) → p < n → FirstKeeps (particleAt (firstHalf h dt modified ids nodes n s) p) (particleAt s p)
+  pub second-keeps : (given : Store) (p : ℕ) → p < n → SecondKeeps (particleAt (secondHalf given n s) p) (particleAt s p)
+  -- There are as many particles as before.
+  pub first-held : (h dt : Float) (modified : ℕ) (ids : List ℕ) (nodes : Store) → Holds particleForm (firstHalf h dt modified ids nodes n s) n
+  pub second-held : (given : Store) → Holds particleForm (secondHalf given n s) n
