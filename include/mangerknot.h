@@ -6,10 +6,10 @@
  *
  * Pointers: behind each stands the count of the entries (not bytes) that it points to; it may be NULL only with a count of 0. A
  * function stays within those entries and keeps no pointer. Only mk_clear2, the scatters, mk_grid_update2 and
- * mk_clear_scatter_update2 write to any, to nodes, and only where they answer 0. That a pointer is valid and aligned for so many
- * entries, and that entries which are written (those without const) overlap no others of the same call, nobody can check behind the
- * call: it is for the caller to see to. The compiler passes the place of a long answer by a pointer of its own making, which is right
- * where the caller includes this file.
+ * mk_clear_scatter_update2 write to any, to nodes, and the two halves of gather, to particles, and only where they answer 0. That a
+ * pointer is valid and aligned for so many entries, and that entries which are written (those without const) overlap no others of the
+ * same call, nobody can check behind the call: it is for the caller to see to. The compiler passes the place of a long answer by a
+ * pointer of its own making, which is right where the caller includes this file.
  *
  * Floats: every NaN is taken, and an answered NaN may have any NaN's pattern; mk_to_bits gives every NaN the pattern 7FC00000. Lent
  * NaNs keep their patterns where a call refuses: that is tested and not proved.
@@ -134,14 +134,15 @@ typedef struct { uint32_t found; size_t place; } mk_found_place;
 
 /*
  * Whether a call was refused: 0 and 0 where it was done, else the number of a rule and the index of the first record that breaks
- * it (0 for 1 to 3, and for a place, boundary handling and locks in 4). Of several rules that are broken the least is answered, and
- * then nothing was written.
+ * it (0 for 1 to 3, and for a place, boundary handling, locks and modified eigenerosion in 4). Of several rules that are broken the
+ * least is answered, and then nothing was written.
  *   1  a length does not match its count
  *   2  a count is over its limit: 512 regions, 65,536 particles, 16 colliders
  *   3  the cell width is not from 2^-20 to 2^20, dt is not above 0, or they or a part of gravity are not finite
  *   4  a place is no region's, an entry of an order is none's, named again or of a lower colour than the one before it, boundary
- *      handling or locks are above 3; after these, a word of a particle is neither 0 nor 1, or of a projection
- *   5  a number of a particle is not finite; after these, of a collider; after these, of a projection
+ *      handling or locks are above 3, modified eigenerosion is neither 0 nor 1; after these, a word of a particle is neither 0 nor 1,
+ *      after these, of what is given of a particle, or of a projection
+ *   5  a number of a particle is not finite; after these, of what is given of a particle, or of a collider; after these, of a projection
  *   6  region ids do not strictly ascend (of such a pair, the later one), or have one of their low 12 bits set
  *   7  a region's start is not the sum of the counts before it, or its count goes beyond the last particle; the index is the number of
  *      regions where particles are left over
@@ -236,6 +237,40 @@ mk_refusal mk_clear_scatter_update2(float cell_width, float dt, mk_vector2 gravi
                                     const float *projection_floats, size_t projection_floats_len, const uint32_t *projection_words,
                                     size_t projection_words_len, float *node_floats, size_t node_floats_len, uint32_t *node_words,
                                     size_t node_words_len);
+
+/* ---- Gather: from nodes to particles, in two halves ---- */
+
+/*
+ * Particles and ranges are as in mk_particle_to_grid_scatter2, nodes as in mk_clear2; these are read as they are and not written.
+ * modified_eigenerosion is 0 or 1. Refuses 1 to 10.
+ *
+ * Every particle gets a new velocity and velocity gradient from the nine nodes of its stencil. With modified eigenerosion, and of a
+ * particle whose crack factor is not 0 and whose phase is above 0, the phase becomes 0 where crack factor times cell width times the psi
+ * of its nodes is above its crack threshold. A kinematic particle has its kinematic velocity instead, and every particle, a static one
+ * too, moves by its velocity times dt. Then a solid's deformation gradient F grows by the velocity gradient times dt times F; of a
+ * fluid, only F's first entry grows, by the velocity's divergence times dt times that entry. All other fields keep every bit. A result
+ * that overflows is stored as it is, and refused when it comes back.
+ *
+ * The host may then rewrite F.
+ */
+mk_refusal mk_grid_to_particle_first_half2(float cell_width, float dt, uint32_t modified_eigenerosion, size_t regions,
+                                           const uint64_t *ids, size_t ids_len, const uint64_t *ranges, size_t ranges_len,
+                                           size_t particles, float *particle_floats, size_t particle_floats_len,
+                                           uint32_t *particle_words, size_t particle_words_len, const float *node_floats,
+                                           size_t node_floats_len, const uint32_t *node_words, size_t node_words_len);
+/*
+ * What is given of each particle, by what the host's models say of it: two floats, a density and an energy, and one word, 1 where it
+ * failed and 0 where not. So given_floats has twice as many entries as there are particles, and given_words as many. Refuses 1, 2, 4 and
+ * 5.
+ *
+ * A static particle's velocity and velocity gradient become 0. A particle whose density is given as 0, that has failed already, or
+ * that is a solid and has an F whose first entry is above 1.0e4 or below -1.0e4, is failed: F becomes the identity and the velocity
+ * gradient 0. Psi becomes the larger of psi and the given energy, parameter1 that times the mass, and parameter2 the mass. A given
+ * failure makes the phase 0. All other fields keep every bit. A result that overflows is stored as it is.
+ */
+mk_refusal mk_grid_to_particle_second_half2(size_t particles, float *particle_floats, size_t particle_floats_len,
+                                            uint32_t *particle_words, size_t particle_words_len, const float *given_floats,
+                                            size_t given_floats_len, const uint32_t *given_words, size_t given_words_len);
 
 #ifdef __cplusplus
 }

@@ -237,6 +237,57 @@ static void refused_updates(void) {
     EXPECT(node_floats[0] == 1.0f && node_floats[1] == 2.0f && node_floats[3] == -1.0f && node_words[0] == 0);
 }
 
+/* The listing's particle, with F the identity and its phase 1, over nodes that all go (1, 2), in half a unit of time. */
+static float gathered[26];
+static uint32_t gathered_flags[4];
+static float flow[112];
+static uint32_t no_flags[16];
+
+static void build_flow(void) {
+    memcpy(gathered, particle, sizeof particle);
+    gathered[14] = gathered[17] = gathered[20] = 1;
+    for (int k = 0; k < 16; k++) {
+        flow[7 * k + 3] = 1;
+        flow[7 * k + 4] = 2;
+    }
+}
+
+/* The particle goes with the nodes, which do not turn it; the host squeezes it; its models say that it has no density and an energy. */
+static void gathers(void) {
+    const float given[2] = {0, 3}, first[8] = {1.5f, 2, 1, 2, 0, 0, 0, 0}, identity[4] = {1, 0, 0, 1};
+    const uint32_t failure[1] = {1};
+    float before[112];
+    memcpy(before, flow, sizeof flow);
+    mk_refusal done = mk_grid_to_particle_first_half2(1.0f, 0.5f, 1, 1, region, 1, range, 2, 1, gathered, 26, gathered_flags, 4, flow,
+                                                      112, no_flags, 16);
+    EXPECT(done.number == 0 && done.index == 0);
+    EXPECT(memcmp(gathered, first, sizeof first) == 0 && memcmp(gathered + 17, identity, sizeof identity) == 0);
+    EXPECT(memcmp(flow, before, sizeof flow) == 0 && gathered[14] == 1 && gathered[12] == 64);
+    gathered[17] = 0.5f;
+    done = mk_grid_to_particle_second_half2(1, gathered, 26, gathered_flags, 4, given, 2, failure, 1);
+    EXPECT(done.number == 0 && done.index == 0);
+    EXPECT(gathered_flags[0] == 1 && gathered_flags[1] == 0 && memcmp(gathered + 17, identity, sizeof identity) == 0);
+    EXPECT(gathered[2] == 1 && gathered[14] == 0 && gathered[16] == 3 && gathered[22] == 192 && gathered[23] == 64);
+}
+
+static void refused_gathers(void) {
+    float kept[26];
+    const float given[2] = {1, NAN};
+    const uint32_t failure[1] = {0};
+    memcpy(kept, gathered, sizeof gathered);
+    mk_refusal refused = mk_grid_to_particle_first_half2(1.0f, 1.0f, 2, 1, region, 1, range, 2, 1, gathered, 26, gathered_flags, 4, flow,
+                                                         112, no_flags, 16);
+    EXPECT(refused.number == 4 && refused.index == 0);
+    refused = mk_grid_to_particle_first_half2(2.0f, 1.0f, 0, 1, region, 1, range, 2, 1, gathered, 26, gathered_flags, 4, flow, 111,
+                                              no_flags, 16);
+    EXPECT(refused.number == 1 && refused.index == 0);
+    refused = mk_grid_to_particle_second_half2(1, gathered, 26, gathered_flags, 4, given, 2, failure, 1);
+    EXPECT(refused.number == 5 && refused.index == 0);
+    EXPECT(memcmp(kept, gathered, sizeof kept) == 0 && gathered_flags[0] == 1);
+    refused = mk_grid_to_particle_second_half2(0, NULL, 0, NULL, 0, NULL, 0, NULL, 0);
+    EXPECT(refused.number == 0 && refused.index == 0);
+}
+
 int main(void) {
     ids_in_2d();
     ids_in_3d();
@@ -251,5 +302,8 @@ int main(void) {
     updates();
     sequences();
     refused_updates();
+    build_flow();
+    gathers();
+    refused_gathers();
     return wrong;
 }

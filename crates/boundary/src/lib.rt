@@ -1,7 +1,8 @@
 // The functions that a host in Rust or C links, under their plain names: one for each public function of packing, numeric and cells and for each call of grid,
-// scatter, update and solver, with its contract.
+// scatter, update, gather and solver, with its contract.
 mod answers;
 mod floats;
+mod grid_to_particle;
 mod grid_update;
 mod ids;
 mod particle_to_grid;

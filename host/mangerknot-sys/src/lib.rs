@@ -255,4 +255,34 @@ extern "C" {
         node_words: *mut u32,
         node_words_len: usize,
     ) -> Refusal;
+    pub fn mk_grid_to_particle_first_half2(
+        cell_width: f32,
+        dt: f32,
+        modified_eigenerosion: u32,
+        regions: usize,
+        ids: *const u64,
+        ids_len: usize,
+        ranges: *const u64,
+        ranges_len: usize,
+        particles: usize,
+        particle_floats: *mut f32,
+        particle_floats_len: usize,
+        particle_words: *mut u32,
+        particle_words_len: usize,
+        node_floats: *const f32,
+        node_floats_len: usize,
+        node_words: *const u32,
+        node_words_len: usize,
+    ) -> Refusal;
+    pub fn mk_grid_to_particle_second_half2(
+        particles: usize,
+        particle_floats: *mut f32,
+        particle_floats_len: usize,
+        particle_words: *mut u32,
+        particle_words_len: usize,
+        given_floats: *const f32,
+        given_floats_len: usize,
+        given_words: *const u32,
+        given_words_len: usize,
+    ) -> Refusal;
 }

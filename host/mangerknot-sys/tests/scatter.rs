@@ -6,11 +6,11 @@ mod lent;
 mod replay;
 
 use archive::Which;
-use guarded::{ask, done, Nodes};
+use guarded::{ask, done, replay_calls};
 use mangerknot_sys::*;
-use replay::{decimal, replay};
+use replay::decimal;
 use samples::random::{order, Style};
-use samples::{Call, Rng, PARTICLE_FLOATS};
+use samples::{Call, Records, Rng, PARTICLE_FLOATS};
 use std::ptr;
 
 const SEED: u64 = 0x5363_6174_7465_7221;
@@ -28,24 +28,17 @@ fn answer(which: &Which, call: &Call, edits: &[&str]) -> String {
 
 #[test]
 fn scatter_vectors() {
-    let mut calls: Vec<Call> = vec![];
-    let asked = replay("host/vectors/scatter.questions", "host/vectors/scatter.answers", |question| match *question {
-        ["b", number, ref fields @ ..] => {
-            assert_eq!(decimal::<usize>(number), calls.len());
-            calls.push(Call::from_fields(fields));
-            calls[calls.len() - 1].node_words.len().to_string()
-        }
-        ["f", number, ref edits @ ..] => answer(&Which::All, &calls[decimal::<usize>(number)], edits),
-        ["o", number, place, ref edits @ ..] => answer(&Which::Region(decimal(place)), &calls[decimal::<usize>(number)], edits),
-        ["q", number, count, ref rest @ ..] => {
+    let letters = replay_calls("scatter", Call::from_fields, |letter, call, more| match (letter, more) {
+        ("f", edits) => answer(&Which::All, call, edits),
+        ("o", [place, edits @ ..]) => answer(&Which::Region(decimal(place)), call, edits),
+        ("q", [count, rest @ ..]) => {
             let (order, edits) = rest.split_at(decimal(count));
             let order: Vec<u64> = order.iter().map(|place| decimal(place)).collect();
-            answer(&Which::Order(&order), &calls[decimal::<usize>(number)], edits)
+            answer(&Which::Order(&order), call, edits)
         }
-        _ => panic!("no such question: {:?}", question),
+        _ => panic!("no such question: {} {:?}", letter, more),
     });
-    let kinds: String = asked.keys().map(String::as_str).collect();
-    assert_eq!(kinds, "bfoq");
+    assert_eq!(letters, "bfoq");
 }
 
 /// All at once, in an order of regions, and region by region: the nodes are the same, and a node that no particle reaches keeps
@@ -56,7 +49,7 @@ fn any_order_within_colours_leaves_the_same_nodes() {
     for sample in 0..4000 {
         let call = Style::any(&mut rng).sample(&mut rng);
         let hits = call.hits(None);
-        let written = |nodes: &Nodes| call.answered((&nodes.0, &nodes.1), &hits);
+        let written = |nodes: &Records| call.answered((&nodes.0, &nodes.1), &hits);
         let all = written(&done(&Which::All, &call));
         assert!(all.iter().zip(&hits).all(|(node, hit)| *hit != (*node == "=")), "sample {}", sample);
         let order = order(&call, &mut rng);

@@ -7,36 +7,28 @@ mod lent;
 mod replay;
 
 use archive::Which;
-use guarded::{ask, done, Nodes};
+use guarded::{ask, done, replay_calls};
 use mangerknot_sys::*;
-use replay::{decimal, replay};
 use samples::lines::Edit;
 use samples::random::{bounded, order, Old, Style};
-use samples::{Call, Rng, FRICTION, NODE_FLOATS, NONE, REGION_NODES, STICK, VELOCITY};
+use samples::{Call, Records, Rng, FRICTION, NODE_FLOATS, NONE, REGION_NODES, STICK, VELOCITY};
 use std::collections::HashSet;
 use std::ptr;
 
 const SEED: u64 = 0x5570_6461_7465_2121;
 
-fn written(call: &Call, nodes: &Nodes) -> Vec<String> {
+fn written(call: &Call, nodes: &Records) -> Vec<String> {
     call.all_answered((&nodes.0, &nodes.1))
 }
 
 #[test]
 fn update_vectors() {
-    let mut calls: Vec<Call> = vec![];
-    let asked = replay("host/vectors/update.questions", "host/vectors/update.answers", |question| match *question {
-        ["b", number, ref fields @ ..] => {
-            assert_eq!(decimal::<usize>(number), calls.len());
-            calls.push(Call::from_bounded_fields(fields));
-            calls[calls.len() - 1].node_words.len().to_string()
-        }
-        ["u", number, ref edits @ ..] => guarded::answer(&Which::Update, &calls[decimal::<usize>(number)], edits, written),
-        ["a", number, ref edits @ ..] => guarded::answer(&Which::Sequence, &calls[decimal::<usize>(number)], edits, written),
-        _ => panic!("no such question: {:?}", question),
+    let letters = replay_calls("update", Call::from_bounded_fields, |letter, call, edits| match letter {
+        "u" => guarded::answer(&Which::Update, call, edits, written),
+        "a" => guarded::answer(&Which::Sequence, call, edits, written),
+        _ => panic!("no such question: {}", letter),
     });
-    let kinds: String = asked.keys().map(String::as_str).collect();
-    assert_eq!(kinds, "abu");
+    assert_eq!(letters, "abu");
 }
 
 /// The node at the origin, of mass 1 and velocity (1, -1), above a floor: what is left of its velocity, and its flag.
@@ -101,7 +93,7 @@ fn what_an_update_does_not_compute_keeps_every_bit() {
     assert!(moved > 10_000, "only {} floats moved", moved);
 }
 
-fn clear(call: &Call) -> Nodes {
+fn clear(call: &Call) -> Records {
     let (mut floats, mut words) = (call.node_floats.clone(), call.node_words.clone());
     let refusal = unsafe {
         let (floats_at, words_at) = (floats.as_mut_ptr().cast(), words.as_mut_ptr());
@@ -147,7 +139,7 @@ fn any_fault(rng: &mut Rng) -> Vec<Edit> {
 
 /// Calls on one list of regions, with nothing written to nodes between them, and at last an update. Answers how many nodes some stencil
 /// reached that have mass, and how many none reached; these have to be empty.
-fn empty_until_reached(calls: &[Call], cleared: Nodes, rng: &mut Rng) -> (usize, usize) {
+fn empty_until_reached(calls: &[Call], cleared: Records, rng: &mut Rng) -> (usize, usize) {
     let (mut nodes, mut touched) = (cleared, HashSet::new());
     for (turn, call) in calls.iter().enumerate() {
         let (order, place) = (order(call, rng), rng.below(call.regions) as usize);

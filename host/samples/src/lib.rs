@@ -1,10 +1,11 @@
-//! Calls of a scatter and of an update to judge by: made from a seed (`random`), written in lines and read again (`lines`). The
-//! rules are document 01's (`plane`); nothing is taken from the port.
+//! Calls of a scatter, of an update and of a gather to judge by: made from a seed (`random`), written in lines and read again
+//! (`lines`), and put together to whole substeps (`substeps`). The rules are document 01's (`plane`); nothing is taken from the port.
 
 pub mod lines;
 pub mod plane;
 pub mod random;
 mod rng;
+pub mod substeps;
 
 pub use rng::Rng;
 
@@ -15,11 +16,35 @@ pub const NODE_FLOATS: usize = 7;
 pub const REGION_NODES: usize = 16;
 pub const REGION_FLOATS: usize = REGION_NODES * NODE_FLOATS;
 pub const PROJECTION_FLOATS: usize = 2;
+pub const GIVEN_FLOATS: usize = 2;
 
 /// Where a node's velocity stands among its floats.
 pub const VELOCITY: usize = 3;
 
-/// All that a scatter is given, and an update. Floats of records are kept as bits, so that no NaN loses its pattern.
+/// Where a particle's fields stand, those up to the kinematic velocity among its floats, the others among its words.
+pub mod particle {
+    pub const POSITION: usize = 0;
+    pub const VELOCITY: usize = 2;
+    pub const GRADIENT: usize = 4;
+    pub const STRESS: usize = 8;
+    pub const MASS: usize = 12;
+    pub const VOLUME: usize = 13;
+    pub const PHASE: usize = 14;
+    pub const CRACK_FACTOR: usize = 15;
+    pub const PSI: usize = 16;
+    pub const DEFORMATION: usize = 17;
+    pub const CRACK_THRESHOLD: usize = 21;
+    pub const PARAMETER1: usize = 22;
+    pub const PARAMETER2: usize = 23;
+    pub const KINEMATIC_VELOCITY: usize = 24;
+
+    pub const FAILED: usize = 0;
+    pub const KINEMATIC: usize = 1;
+    pub const FLUID: usize = 2;
+    pub const STATIC: usize = 3;
+}
+
+/// All that a scatter is given, an update, and a gather. Floats of records are kept as bits, so that no NaN loses its pattern.
 #[derive(Clone, Debug, PartialEq)]
 pub struct Call {
     pub cell_width: f32,
@@ -34,7 +59,11 @@ pub struct Call {
     pub node_floats: Vec<u32>,
     pub node_words: Vec<u32>,
     pub boundary: Boundary,
+    pub gather: Gather,
 }
+
+/// The floats, by their bits, and the words of particles or of nodes.
+pub type Records = (Vec<u32>, Vec<u32>);
 
 /// What an update is given beside settings, regions and nodes: its own settings, and of each collider a friction and the points
 /// that it has for the cells, whether inside or not, ordered by region, cell and collider.
@@ -46,6 +75,15 @@ pub struct Boundary {
     pub frictions: Vec<u32>,
     pub points: Vec<u32>,
     pub insides: Vec<u32>,
+}
+
+/// What the halves of a gather are given beside settings, regions, particles and nodes: whether eigenerosion is the modified one; and
+/// of each particle what its models say: a density, an energy, and whether it failed.
+#[derive(Clone, Debug, Default, PartialEq)]
+pub struct Gather {
+    pub eigenerosion: u32,
+    pub given_floats: Vec<u32>,
+    pub given_words: Vec<u32>,
 }
 
 /// Codes of boundary handling.
@@ -71,6 +109,7 @@ impl Call {
             node_floats: vec![0; regions * REGION_FLOATS],
             node_words: vec![0; regions * REGION_NODES],
             boundary: Boundary::default(),
+            gather: Gather::default(),
         }
     }
 
@@ -105,6 +144,11 @@ impl Call {
             particle_words: self.particle_words.clone(),
             ..call
         }
+    }
+
+    /// The call with these particles in place of its own.
+    pub fn with_particles(&self, (floats, words): &Records) -> Call {
+        Call { particle_floats: floats.clone(), particle_words: words.clone(), ..self.clone() }
     }
 
     pub fn position(&self, particle: usize) -> [f32; 2] {

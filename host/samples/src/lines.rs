@@ -1,10 +1,18 @@
 //! Calls in fields of lines, and what a question changes about a call.
 
-use crate::{canonical, Boundary, Call, NODE_FLOATS, PARTICLE_FLOATS, PARTICLE_WORDS, PROJECTION_FLOATS, REGION_NODES};
+use crate::{
+    canonical, Boundary, Call, Gather, Records, GIVEN_FLOATS, NODE_FLOATS, PARTICLE_FLOATS, PARTICLE_WORDS, PROJECTION_FLOATS,
+    REGION_NODES,
+};
 use std::fmt;
+use std::iter::Copied;
+use std::slice::Iter;
 use std::str::FromStr;
 
-/// How a node of zeros is written, or a projection, and a node that is as it was.
+/// The fields of a line that are still to be read.
+type Fields<'a> = Copied<Iter<'a, &'a str>>;
+
+/// How a node of zeros is written, a projection or what is given of a particle; and a node or particle that is as it was.
 const EMPTY: &str = "0";
 const KEPT: &str = "=";
 
@@ -17,8 +25,7 @@ impl Call {
             fields.extend([format!("{:016X}", id), range[0].to_string(), range[1].to_string()]);
         }
         fields.push(self.particles.to_string());
-        let particles = self.particle_floats.chunks_exact(PARTICLE_FLOATS).zip(self.particle_words.chunks_exact(PARTICLE_WORDS));
-        fields.extend(particles.map(|(floats, words)| hex(floats) + &hex(words)));
+        fields.extend(particles(&self.particle_floats, &self.particle_words).map(|(floats, words)| hex(floats) + &hex(words)));
         fields.extend(records(&self.node_floats, NODE_FLOATS, &self.node_words));
         fields
     }
@@ -33,28 +40,44 @@ impl Call {
         fields
     }
 
+    /// A call's own fields, and behind them a gather's: its setting, and what is given of each particle.
+    pub fn gather_fields(&self) -> Vec<String> {
+        let Gather { eigenerosion, given_floats, given_words } = &self.gather;
+        let mut fields = self.fields();
+        fields.push(eigenerosion.to_string());
+        fields.extend(records(given_floats, GIVEN_FLOATS, given_words));
+        fields
+    }
+
     fn settings(&self) -> [f32; 4] {
         [self.cell_width, self.dt, self.gravity[0], self.gravity[1]]
     }
 
     /// A call from its fields; anything else is a fault of the file.
     pub fn from_fields(fields: &[&str]) -> Call {
-        let mut fields = fields.iter().copied();
-        let call = Call::read(&mut fields);
-        assert_eq!(fields.next(), None, "fields left over");
-        call
+        Call::with_more(fields, |_, _| {})
     }
 
     /// A call from its fields and, behind them, its boundary's.
     pub fn from_bounded_fields(fields: &[&str]) -> Call {
-        let mut fields = fields.iter().copied();
-        let call = Call::read(&mut fields);
-        let boundary = Boundary::read(&mut fields, call.ids.len());
-        assert_eq!(fields.next(), None, "fields left over");
-        Call { boundary, ..call }
+        Call::with_more(fields, |call, fields| call.boundary = Boundary::read(fields, call.ids.len()))
     }
 
-    fn read<'a>(fields: &mut impl Iterator<Item = &'a str>) -> Call {
+    /// A call from its fields and, behind them, a gather's.
+    pub fn from_gather_fields(fields: &[&str]) -> Call {
+        Call::with_more(fields, |call, fields| call.gather = Gather::read(fields, call.particles as usize))
+    }
+
+    /// A call from its fields and from what is read behind them.
+    fn with_more(fields: &[&str], more: impl FnOnce(&mut Call, &mut Fields)) -> Call {
+        let mut fields = fields.iter().copied();
+        let mut call = Call::read(&mut fields);
+        more(&mut call, &mut fields);
+        assert_eq!(fields.next(), None, "fields left over");
+        call
+    }
+
+    fn read(fields: &mut Fields) -> Call {
         let mut next = || fields.next().expect("another field");
         let [cell_width, dt, x, y] = [0; 4].map(|_| f32::from_bits(bits(next())));
         let mut call = Call { cell_width, dt, gravity: [x, y], ..Call::on(vec![]) };
@@ -76,7 +99,7 @@ impl Call {
         let before = self.node_floats.chunks_exact(NODE_FLOATS).zip(&self.node_words);
         let after = after.0.chunks_exact(NODE_FLOATS).zip(after.1);
         let nodes = before.zip(after).zip(hit).map(|((before, (floats, flag)), hit)| match hit {
-            true => floats.iter().map(|part| word(canonical(*part))).collect::<String>() + &word(*flag),
+            true => canonical_hex(floats) + &word(*flag),
             false if before == (floats, flag) => KEPT.to_string(),
             false => hex(floats) + &word(*flag),
         });
@@ -93,6 +116,16 @@ impl Call {
         self.answered(after, &moved)
     }
 
+    /// The particles after a call that was done: of one that is as it was, bit for bit, only that; else with one pattern for every NaN.
+    pub fn particles_answered(&self, after: (&[u32], &[u32])) -> Vec<String> {
+        let before = particles(&self.particle_floats, &self.particle_words);
+        let records = before.zip(particles(after.0, after.1)).map(|(before, (floats, words))| match before == (floats, words) {
+            true => KEPT.to_string(),
+            false => canonical_hex(floats) + &hex(words),
+        });
+        records.collect()
+    }
+
     pub fn edited(&self, edits: &[Edit]) -> Call {
         let mut call = self.clone();
         edits.iter().for_each(|edit| edit.apply(&mut call));
@@ -101,13 +134,39 @@ impl Call {
 }
 
 impl Boundary {
-    fn read<'a>(fields: &mut impl Iterator<Item = &'a str>, regions: usize) -> Boundary {
+    fn read(fields: &mut Fields, regions: usize) -> Boundary {
         let mut next = || fields.next().expect("another field");
         let (handling, locks, colliders) = (decimal(next()), decimal(next()), decimal(next()));
         let frictions = (0..colliders).map(|_| bits(next())).collect();
         let (points, insides) = read_records(fields, regions * REGION_NODES * colliders as usize, PROJECTION_FLOATS, 1);
         Boundary { handling, locks, colliders, frictions, points, insides }
     }
+}
+
+impl Gather {
+    fn read(fields: &mut Fields, particles: usize) -> Gather {
+        let eigenerosion = decimal(fields.next().expect("another field"));
+        let (given_floats, given_words) = read_records(fields, particles, GIVEN_FLOATS, 1);
+        Gather { eigenerosion, given_floats, given_words }
+    }
+}
+
+/// The floats and words of each particle.
+fn particles<'a>(floats: &'a [u32], words: &'a [u32]) -> impl Iterator<Item = (&'a [u32], &'a [u32])> {
+    floats.chunks_exact(PARTICLE_FLOATS).zip(words.chunks_exact(PARTICLE_WORDS))
+}
+
+/// Fields in a row that are the same become one, with their count behind it.
+pub fn folded(fields: &[String]) -> Vec<String> {
+    let mut found: Vec<(&String, usize)> = vec![];
+    for field in fields {
+        match found.last_mut() {
+            Some((last, count)) if *last == field => *count += 1,
+            _ => found.push((field, 1)),
+        }
+    }
+    let written = |(field, count): (&String, usize)| if count == 1 { field.clone() } else { format!("{}*{}", field, count) };
+    found.into_iter().map(written).collect()
 }
 
 /// Records of so many floats and one word each, in the fields of a line.
@@ -119,12 +178,7 @@ fn records<'a>(floats: &'a [u32], each: usize, words: &'a [u32]) -> impl Iterato
 }
 
 /// The floats and the words of so many records.
-fn read_records<'a>(
-    fields: &mut impl Iterator<Item = &'a str>,
-    count: usize,
-    floats: usize,
-    words: usize,
-) -> (Vec<u32>, Vec<u32>) {
+fn read_records(fields: &mut Fields, count: usize, floats: usize, words: usize) -> Records {
     let read = fields.take(count).map(|field| match field {
         EMPTY => (vec![0; floats], vec![0; words]),
         record => parted(record, floats),
@@ -140,6 +194,10 @@ fn word(number: u32) -> String {
 
 fn hex(words: &[u32]) -> String {
     words.iter().map(|part| word(*part)).collect()
+}
+
+fn canonical_hex(floats: &[u32]) -> String {
+    floats.iter().map(|part| word(canonical(*part))).collect()
 }
 
 fn bits(field: &str) -> u32 {
@@ -160,7 +218,7 @@ fn parted(field: &str, floats: usize) -> (Vec<u32>, Vec<u32>) {
 /// What a question changes about a call; `Display` writes it as a field, and `from_str` reads that.
 #[derive(Clone, Debug, PartialEq)]
 pub enum Edit {
-    /// h, t (dt), x or y (gravity), b (boundary handling) or d (locks) = bits.
+    /// h, t (dt), x or y (gravity), b (boundary handling), d (locks) or e (modified eigenerosion) = bits.
     Setting(char, u32),
     /// r (regions), p (particles) or c (colliders) = a count, whatever the lists have.
     Count(char, u64),
@@ -168,12 +226,12 @@ pub enum Edit {
     Entry(char, usize, u64),
     /// A list's length; what is missing is 0.
     Length(char, usize),
-    /// All particles are the first one, so often, and all of the first region.
+    /// All particles are the first one, so often, with what is given of it, and all of the first region.
     Copies(usize),
 }
 
 /// A list of a call, by its letter: i ids, s starts and counts, f and w floats and words of particles, m and k of nodes, n
-/// frictions, j and q floats and words of projections.
+/// frictions, j and q floats and words of projections, g and v of what is given of particles.
 enum List<'a> {
     Wide(&'a mut Vec<u64>),
     Narrow(&'a mut Vec<u32>),
@@ -190,6 +248,8 @@ fn list(call: &mut Call, letter: char) -> List<'_> {
         'n' => List::Narrow(&mut call.boundary.frictions),
         'j' => List::Narrow(&mut call.boundary.points),
         'q' => List::Narrow(&mut call.boundary.insides),
+        'g' => List::Narrow(&mut call.gather.given_floats),
+        'v' => List::Narrow(&mut call.gather.given_words),
         _ => panic!("no list {}", letter),
     }
 }
@@ -222,14 +282,18 @@ fn set(call: &mut Call, letter: char, bits: u32) {
         'y' => call.gravity[1] = f32::from_bits(bits),
         'b' => call.boundary.handling = bits,
         'd' => call.boundary.locks = bits,
+        'e' => call.gather.eigenerosion = bits,
         _ => panic!("no setting {}", letter),
     }
 }
 
 fn copy_first(call: &mut Call, count: usize) {
+    let Gather { given_floats, given_words, .. } = &mut call.gather;
+    let lists = [&mut call.particle_floats, &mut call.particle_words, given_floats, given_words];
+    for (list, each) in lists.into_iter().zip([PARTICLE_FLOATS, PARTICLE_WORDS, GIVEN_FLOATS, 1]) {
+        *list = list.get(..each).unwrap_or_default().repeat(count);
+    }
     call.particles = count as u64;
-    call.particle_floats = call.particle_floats[..PARTICLE_FLOATS].repeat(count);
-    call.particle_words = call.particle_words[..PARTICLE_WORDS].repeat(count);
     for (place, range) in call.ranges.chunks_exact_mut(2).enumerate() {
         range.copy_from_slice(&if place == 0 { [0, count as u64] } else { [count as u64, 0] });
     }
@@ -257,7 +321,7 @@ impl FromStr for Edit {
         Ok(match (letter, rest.split_once('='), rest.strip_prefix('#')) {
             ('*', ..) => Edit::Copies(decimal(rest)),
             ('r' | 'p' | 'c', Some(("", count)), _) => Edit::Count(letter, decimal(count)),
-            ('h' | 't' | 'x' | 'y' | 'b' | 'd', Some(("", setting)), _) => Edit::Setting(letter, bits(setting)),
+            ('h' | 't' | 'x' | 'y' | 'b' | 'd' | 'e', Some(("", setting)), _) => Edit::Setting(letter, bits(setting)),
             (_, Some((place, entry)), _) => Edit::Entry(letter, decimal(place), u64::from_str_radix(entry, 16).map_err(drop)?),
             (_, None, Some(length)) => Edit::Length(letter, decimal(length)),
             _ => return Err(()),
@@ -268,7 +332,7 @@ impl FromStr for Edit {
 #[cfg(test)]
 mod tests {
     use super::*;
-    use crate::random::{bounded, Style};
+    use crate::random::{bounded, gathered, Style};
     use crate::Rng;
 
     #[test]
@@ -289,6 +353,46 @@ mod tests {
             let fields = call.bounded_fields();
             assert_eq!(Call::from_bounded_fields(&fields.iter().map(String::as_str).collect::<Vec<_>>()), call);
         }
+    }
+
+    #[test]
+    fn what_is_given_is_read_again_behind_its_call() {
+        let mut rng = Rng::new(9);
+        for _ in 0..50 {
+            let call = gathered(Style::any(&mut rng).sample(&mut rng), &mut rng);
+            let fields = call.gather_fields();
+            assert_eq!(Call::from_gather_fields(&fields.iter().map(String::as_str).collect::<Vec<_>>()), call);
+        }
+    }
+
+    #[test]
+    fn edits_of_a_gather_change_what_they_name() {
+        let mut rng = Rng::new(10);
+        let call = gathered(Style::plain(1.0, [0, 0], [4, 4], 3).sample(&mut rng), &mut rng);
+        let edits = ["e=00000002", "g5=7FC00001", "v2=3", "g#7", "v#0"];
+        let read: Vec<Edit> = edits.iter().map(|edit| edit.parse().unwrap()).collect();
+        assert!(read.iter().map(Edit::to_string).eq(edits));
+        assert_eq!(call.edited(&read[2..3]).gather.given_words[2], 3);
+        let Gather { eigenerosion, given_floats, given_words } = call.edited(&read).gather;
+        assert_eq!((eigenerosion, given_floats[5], given_floats.len(), given_words.len()), (2, 0x7fc0_0001, 7, 0));
+        let Gather { given_floats, given_words, .. } = call.edited(&["*4".parse().unwrap()]).gather;
+        assert_eq!((given_floats.len(), given_words.len()), (8, 4));
+        assert_eq!(given_floats[6..], call.gather.given_floats[..2]);
+    }
+
+    #[test]
+    fn an_answer_of_particles_has_what_moved() {
+        let call = Style::plain(1.0, [3, 3], [1, 1], 1).sample(&mut Rng::new(1)).edited(&["*4".parse().unwrap()]);
+        let (mut floats, mut words) = (call.particle_floats.clone(), call.particle_words.clone());
+        for particle in [1, 2] {
+            floats[particle * PARTICLE_FLOATS + 25] = 0xffff_ffff;
+            words[particle * PARTICLE_WORDS + 3] = 7;
+        }
+        let answered = call.particles_answered((&floats, &words));
+        assert_eq!([&answered[0], &answered[3]], ["=", "="]);
+        assert_eq!((answered[1].len(), &answered[1][200..208], &answered[1][232..]), (240, "7FC00000", "00000007"));
+        assert_eq!(folded(&answered), ["=".to_string(), answered[1].clone() + "*2", "=".to_string()]);
+        assert!(folded(&[]).is_empty());
     }
 
     #[test]

@@ -1,7 +1,9 @@
-//! Calls of a scatter and of an update that no rule refuses.
+//! Calls of a scatter, of an update and of a gather that no rule refuses.
 
+use crate::particle::{CRACK_FACTOR, DEFORMATION, MASS, PHASE, PSI, VOLUME};
 use crate::{
-    plane, Boundary, Call, Rng, FRICTION, FRICTION_Z_UP, NODE_FLOATS, NONE, PARTICLE_FLOATS, PARTICLE_WORDS, REGION_NODES, STICK,
+    plane, Boundary, Call, Gather, Rng, FRICTION, FRICTION_Z_UP, NODE_FLOATS, NONE, PARTICLE_FLOATS, PARTICLE_WORDS,
+    REGION_NODES, STICK,
 };
 use std::collections::BTreeMap;
 
@@ -114,6 +116,55 @@ fn point_about(centre: [f32; 2], call: &Call, rng: &mut Rng) -> [f32; 2] {
     [centre[0] + x / length * distance, centre[1] + y / length * distance]
 }
 
+/// F00 beyond this, of either sign, is too much for a solid.
+pub const LARGEST_DEFORMATION: f32 = 1.0e4;
+
+/// A number about the largest F00, of either sign.
+pub fn about_the_largest(rng: &mut Rng) -> f32 {
+    let near = f32::from_bits(LARGEST_DEFORMATION.to_bits() + rng.below(5) as u32 - 2);
+    let farther = rng.between(0.9, 1.1) * LARGEST_DEFORMATION;
+    rng.one_of(&[near, near, farther, f32::MAX]) * rng.one_of(&[1.0, -1.0])
+}
+
+/// The call as one of a gather's halves: with what they are given, and now and then an F00 about the largest.
+pub fn gathered(mut call: Call, rng: &mut Rng) -> Call {
+    for floats in call.particle_floats.chunks_exact_mut(PARTICLE_FLOATS) {
+        if rng.below(6) == 0 {
+            floats[DEFORMATION] = about_the_largest(rng).to_bits();
+        }
+    }
+    given(call, rng)
+}
+
+/// The call with or without modified eigenerosion, and with what models say of its particles.
+pub fn given(call: Call, rng: &mut Rng) -> Call {
+    let psis: Vec<f32> = call.particle_floats.chunks_exact(PARTICLE_FLOATS).map(|floats| f32::from_bits(floats[PSI])).collect();
+    let gather = Gather {
+        eigenerosion: rng.one_of(&[0, 1, 1]),
+        given_floats: psis.iter().flat_map(|psi| [density(rng), energy_about(*psi, rng)]).map(f32::to_bits).collect(),
+        given_words: psis.iter().map(|_| rng.one_of(&[0, 0, 1])).collect(),
+    };
+    Call { gather, ..call }
+}
+
+fn density(rng: &mut Rng) -> f32 {
+    let (everyday, any) = (rng.between(0.1, 3.0), with_exponent(0, 254, rng));
+    rng.one_of(&[everyday, everyday, everyday, everyday, -2.5, any, 1e-45, f32::MAX, 0.0, -0.0])
+}
+
+/// An energy below psi, above it, the same, or any. No two zeros but both +0: of others Rust's own maximum is another or hangs on the
+/// machine.
+fn energy_about(psi: f32, rng: &mut Rng) -> f32 {
+    let (everyday, any) = (rng.between(-2.0, 2.0), with_exponent(0, 254, rng));
+    let energy = rng.one_of(&[psi, psi + 0.5, psi - 0.5, 2.0 * psi, 0.5 * psi, -psi, everyday, any, 0.0, -0.0]);
+    match (psi == 0.0 && energy == 0.0, psi.to_bits() | energy.to_bits()) {
+        (true, 0) => energy,
+        (true, _) => everyday,
+        _ if energy.is_finite() => energy,
+        _ => everyday,
+    }
+}
+
 impl Style {
     /// Everyday particles of one window and empty nodes.
     pub fn plain(cell_width: f32, corner: [u32; 2], window: [u32; 2], particles: usize) -> Style {
@@ -136,15 +187,8 @@ impl Style {
     }
 
     pub fn sample(&self, rng: &mut Rng) -> Call {
-        let mut regions: BTreeMap<u64, Vec<Record>> = BTreeMap::new();
-        for _ in 0..self.particles {
-            let record = self.particle(rng);
-            let first = plane::first_cell(record.position(), self.cell_width).expect("made to be in range");
-            for region in plane::regions(first) {
-                regions.entry(region).or_default();
-            }
-            regions.entry(plane::region(first)).or_default().push(record);
-        }
+        let records = (0..self.particles).map(|_| self.particle(rng)).collect();
+        let mut regions = by_regions(records, self.cell_width).expect("made to be in range");
         for _ in 0..self.other_regions {
             regions.entry(plane::region([0; 2].map(|_| any_corner(rng)))).or_default();
         }
@@ -183,10 +227,10 @@ impl Style {
         let mut floats = [0; PARTICLE_FLOATS].map(|_| self.numbers.number(rng));
         [floats[0], floats[1]] = self.place(rng);
         if self.numbers == Numbers::Everyday {
-            floats[12] = rng.between(0.1, 3.0);
-            floats[13] = rng.between(0.1, 2.0);
+            floats[MASS] = rng.between(0.1, 3.0);
+            floats[VOLUME] = rng.between(0.1, 2.0);
         }
-        for place in [14, 15] {
+        for place in [PHASE, CRACK_FACTOR] {
             floats[place] = rng.one_of(&[1.0, 1.0, 0.25, 0.0, -0.0, -1.0, 1e-45, floats[place]]);
         }
         let words = [rng.one_of(&[0, 0, 0, 1]), rng.below(2) as u32, rng.below(2) as u32, rng.below(2) as u32];
@@ -272,6 +316,34 @@ impl Record {
     fn position(&self) -> [f32; 2] {
         [self.floats[0], self.floats[1]]
     }
+}
+
+/// The regions that particles are in or reach, each with its own in their order; none where a particle is off the grid.
+fn by_regions(records: Vec<Record>, cell_width: f32) -> Option<BTreeMap<u64, Vec<Record>>> {
+    let mut regions: BTreeMap<u64, Vec<Record>> = BTreeMap::new();
+    for record in records {
+        let first = plane::first_cell(record.position(), cell_width)?;
+        for region in plane::regions(first) {
+            regions.entry(region).or_default();
+        }
+        regions.entry(plane::region(first)).or_default().push(record);
+    }
+    Some(regions)
+}
+
+/// The call's settings and particles, in the regions where these are now, over nodes of any pattern; none where a particle is off the
+/// grid.
+pub fn sorted_again(old: &Call, rng: &mut Rng) -> Option<Call> {
+    let bits = old.particle_floats.chunks_exact(PARTICLE_FLOATS).map(|bits| <[u32; PARTICLE_FLOATS]>::try_from(bits));
+    let words = old.particle_words.chunks_exact(PARTICLE_WORDS).map(|words| <[u32; PARTICLE_WORDS]>::try_from(words));
+    let records = bits.zip(words).map(|(bits, words)| {
+        let (bits, words) = (bits.expect("a particle's floats"), words.expect("a particle's words"));
+        Record { floats: bits.map(f32::from_bits), words }
+    });
+    let mut new = call(by_regions(records.collect(), old.cell_width)?);
+    (new.cell_width, new.dt, new.gravity) = (old.cell_width, old.dt, old.gravity);
+    new.node_floats.iter_mut().chain(&mut new.node_words).for_each(|word| *word = rng.word());
+    Some(new)
 }
 
 /// A call on these regions and their particles.

@@ -1,47 +1,53 @@
-//! The calls that a scatter's or an update's call can be made of, on slices. Every test has those that it needs.
+//! The calls that a scatter's, an update's or a gather's call can be made of, on slices. Every test has those that it needs.
 #![allow(dead_code)]
 
 use mangerknot_sys::*;
+use samples::substeps::Stage;
 use samples::Call;
+use std::mem::take;
 
-/// Which call it is: the scatter of all regions, of the one at a place, or of all in an order of places; the update; or clear, scatter
-/// and update in one.
+/// Which call it is: the scatter of all regions, of the one at a place, or of all in an order of places; the update; clear, scatter and
+/// update in one; or a half of the gather.
 pub enum Which<'a> {
     All,
     Region(usize),
     Order(&'a [u64]),
     Update,
     Sequence,
+    FirstHalf,
+    SecondHalf,
+}
+
+impl Which<'_> {
+    /// The halves of a gather write particles, all others nodes.
+    pub fn writes_particles(&self) -> bool {
+        matches!(self, Which::FirstHalf | Which::SecondHalf)
+    }
+}
+
+impl From<Stage> for Which<'_> {
+    fn from(stage: Stage) -> Self {
+        match stage {
+            Stage::Sequence => Which::Sequence,
+            Stage::FirstHalf => Which::FirstHalf,
+            Stage::SecondHalf => Which::SecondHalf,
+        }
+    }
 }
 
 /// What a call is lent; floats are lent by their bits, so that nothing on the way can change a NaN's.
 pub struct Lists<'a> {
     pub ids: &'a [u64],
     pub ranges: &'a [u64],
-    pub particle_floats: &'a [u32],
-    pub particle_words: &'a [u32],
+    pub particle_floats: &'a mut [u32],
+    pub particle_words: &'a mut [u32],
     pub collider_floats: &'a [u32],
     pub projection_floats: &'a [u32],
     pub projection_words: &'a [u32],
+    pub given_floats: &'a [u32],
+    pub given_words: &'a [u32],
     pub node_floats: &'a mut [u32],
     pub node_words: &'a mut [u32],
-}
-
-impl<'a> Lists<'a> {
-    /// The call's own lists, and these nodes.
-    pub fn of(call: &'a Call, node_floats: &'a mut [u32], node_words: &'a mut [u32]) -> Self {
-        Lists {
-            ids: &call.ids,
-            ranges: &call.ranges,
-            particle_floats: &call.particle_floats,
-            particle_words: &call.particle_words,
-            collider_floats: &call.boundary.frictions,
-            projection_floats: &call.boundary.points,
-            projection_words: &call.boundary.insides,
-            node_floats,
-            node_words,
-        }
-    }
 }
 
 /// Passes these parts of a call and of its lists on, behind what stands in brackets: settings and counts as they are, of a list its
@@ -71,14 +77,16 @@ macro_rules! pass_on {
             (collider_floats) (projection_floats) (projection_words) $($rest)*
         )
     };
-    ($call:ident $lists:ident $function:ident [$($done:expr),*] nodes) => {
-        pass_on!($call $lists $function [
-            $($done,)*
-            $lists.node_floats.as_mut_ptr().cast(),
-            $lists.node_floats.len(),
-            $lists.node_words.as_mut_ptr(),
-            $lists.node_words.len()
-        ])
+    ($call:ident $lists:ident $function:ident [$($done:expr),*] eigenerosion $($rest:tt)*) => {
+        pass_on!($call $lists $function [$($done,)* $call.gather.eigenerosion] $($rest)*)
+    };
+    ($call:ident $lists:ident $function:ident [$($done:expr),*] written_particles $($rest:tt)*) => {
+        pass_on!(
+            $call $lists $function [$($done,)* $call.particles as usize] (mut particle_floats) (mut particle_words) $($rest)*
+        )
+    };
+    ($call:ident $lists:ident $function:ident [$($done:expr),*] (mut $list:ident) $($rest:tt)*) => {
+        pass_on!($call $lists $function [$($done,)* $lists.$list.as_mut_ptr().cast(), $lists.$list.len()] $($rest)*)
     };
     ($call:ident $lists:ident $function:ident [$($done:expr),*] ($list:ident) $($rest:tt)*) => {
         pass_on!($call $lists $function [$($done,)* $lists.$list.as_ptr().cast(), $lists.$list.len()] $($rest)*)
@@ -89,16 +97,52 @@ macro_rules! pass_on {
 pub fn answer(which: &Which, call: &Call, lists: Lists) -> Refusal {
     macro_rules! scatter {
         ($function:ident [$($first:expr),*]) => {
-            pass_on!(call lists $function [$($first),*] width_and_dt gravity regions (ranges) particles nodes)
+            pass_on!(
+                call lists $function [$($first),*]
+                width_and_dt gravity regions (ranges) particles (mut node_floats) (mut node_words)
+            )
         };
     }
     match *which {
         Which::All => scatter!(mk_particle_to_grid_scatter2 []),
         Which::Region(place) => scatter!(mk_particle_to_grid_scatter_region2[place]),
         Which::Order(order) => scatter!(mk_scatter_in_order2 [order.as_ptr(), order.len()]),
-        Which::Update => pass_on!(call lists mk_grid_update2 [] width_and_dt codes regions colliders nodes),
+        Which::Update => pass_on!(
+            call lists mk_grid_update2 [] width_and_dt codes regions colliders (mut node_floats) (mut node_words)
+        ),
         Which::Sequence => pass_on!(
-            call lists mk_clear_scatter_update2 [] width_and_dt gravity codes regions (ranges) particles colliders nodes
+            call lists mk_clear_scatter_update2 []
+            width_and_dt gravity codes regions (ranges) particles colliders (mut node_floats) (mut node_words)
+        ),
+        Which::FirstHalf => pass_on!(
+            call lists mk_grid_to_particle_first_half2 []
+            width_and_dt eigenerosion regions (ranges) written_particles (node_floats) (node_words)
+        ),
+        Which::SecondHalf => pass_on!(
+            call lists mk_grid_to_particle_second_half2 [] written_particles (given_floats) (given_words)
         ),
     }
+}
+
+/// The archive's answer to a call, which is lent its own lists and has in them afterwards what was written.
+pub fn answer_in_place(which: &Which, call: &mut Call) -> Refusal {
+    let (mut particle_floats, mut particle_words) = (take(&mut call.particle_floats), take(&mut call.particle_words));
+    let (mut node_floats, mut node_words) = (take(&mut call.node_floats), take(&mut call.node_words));
+    let lists = Lists {
+        ids: &call.ids,
+        ranges: &call.ranges,
+        particle_floats: &mut particle_floats,
+        particle_words: &mut particle_words,
+        collider_floats: &call.boundary.frictions,
+        projection_floats: &call.boundary.points,
+        projection_words: &call.boundary.insides,
+        given_floats: &call.gather.given_floats,
+        given_words: &call.gather.given_words,
+        node_floats: &mut node_floats,
+        node_words: &mut node_words,
+    };
+    let refusal = answer(which, call, lists);
+    (call.particle_floats, call.particle_words) = (particle_floats, particle_words);
+    (call.node_floats, call.node_words) = (node_floats, node_words);
+    refusal
 }

@@ -6,7 +6,7 @@ use std::str::FromStr;
 
 /// Compares the answer to every question of a file with the one that stands beside it; says how often each kind was asked.
 pub fn replay(questions: &str, answers: &str, mut answer: impl FnMut(&[&str]) -> String) -> BTreeMap<String, usize> {
-    let read = |name| fs::read_to_string(format!("{}/../../{}", env!("CARGO_MANIFEST_DIR"), name)).expect(name);
+    let read = |name: &str| fs::read_to_string(format!("{}/../../{}", env!("CARGO_MANIFEST_DIR"), name)).expect(name);
     let (questions, answers) = (read(questions), read(answers));
     assert_eq!(questions.lines().count(), answers.lines().count());
     let mut asked = BTreeMap::new();
