@@ -16,6 +16,7 @@ const FILES: &[(&str, Option<&str>)] = &[
     ("src/dynamics/particle.rs", None),
     ("src/dynamics/particle_model.rs", None),
     ("src/dynamics/particle_set.rs", None),
+    ("src/dynamics/solver/grid_to_particle.rs", None),
     ("src/dynamics/solver/grid_update.rs", None),
     ("src/dynamics/solver/particle_to_grid.rs", None),
     ("src/geometry/mod.rs", Some("geometry.rs")),

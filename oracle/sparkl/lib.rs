@@ -15,6 +15,8 @@ extern crate self as rayon;
 mod stand_ins;
 #[cfg(feature = "dim2")]
 pub mod colliders;
+#[cfg(feature = "dim2")]
+mod given;
 pub mod math;
 
 #[cfg(feature = "dim2")]

@@ -1,9 +1,9 @@
 //! For `parry::math` and the parts of nalgebra behind it: vectors, points and matrices, each operation of every component by
 //! itself and once rounded, sums of products from left to right.
 
-#[cfg(feature = "dim2")]
-use std::ops::Deref;
 use std::ops::{Add, AddAssign, Div, Index, Mul, Neg, Sub, SubAssign};
+#[cfg(feature = "dim2")]
+use std::ops::{Deref, IndexMut};
 
 pub type Kernel = crate::kernel::QuadraticKernel;
 pub type Real = f32;
@@ -106,6 +106,25 @@ impl Vector<Real> {
 
     pub fn norm(&self) -> Real {
         self.dot(self).sqrt()
+    }
+
+    pub fn transpose(&self) -> RowVector {
+        RowVector(*self)
+    }
+}
+
+/// A vector as a row: what a column is multiplied with to make a matrix.
+#[cfg(feature = "dim2")]
+#[derive(Copy, Clone)]
+pub struct RowVector(Vector<Real>);
+
+/// Each entry is one product.
+#[cfg(feature = "dim2")]
+impl Mul<RowVector> for Vector<Real> {
+    type Output = Matrix<Real>;
+
+    fn mul(self, RowVector(row): RowVector) -> Matrix<Real> {
+        SMatrix([self.x, self.y].map(|part| [part * row.x, part * row.y]))
     }
 }
 
@@ -253,6 +272,10 @@ impl<const R: usize, const C: usize> SMatrix<Real, R, C> {
         SMatrix([[0.0; C]; R])
     }
 
+    pub fn fill(&mut self, part: Real) {
+        *self = SMatrix([[part; C]; R]);
+    }
+
     pub fn identity() -> Self {
         let mut made = Self::zeros();
         (0..R.min(C)).for_each(|place| made.0[place][place] = 1.0);
@@ -301,11 +324,24 @@ impl<T, const R: usize, const C: usize> Index<(usize, usize)> for SMatrix<T, R, 
     }
 }
 
+#[cfg(feature = "dim2")]
+impl<T, const R: usize, const C: usize> IndexMut<(usize, usize)> for SMatrix<T, R, C> {
+    fn index_mut(&mut self, (row, column): (usize, usize)) -> &mut T {
+        &mut self.0[row][column]
+    }
+}
+
 impl<const R: usize, const C: usize> Add<SMatrix<Real, R, C>> for &SMatrix<Real, R, C> {
     type Output = SMatrix<Real, R, C>;
 
     fn add(self, other: SMatrix<Real, R, C>) -> SMatrix<Real, R, C> {
         self.zip_map(&other, |one, other| one + other)
+    }
+}
+
+impl<const R: usize, const C: usize> AddAssign for SMatrix<Real, R, C> {
+    fn add_assign(&mut self, other: Self) {
+        *self = &*self + other;
     }
 }
 
@@ -347,6 +383,16 @@ impl Mul<Vector<Real>> for Matrix<Real> {
 
     fn mul(self, vector: Vector<Real>) -> Vector<Real> {
         Vector::from(self.0.map(|[x, y]| x * vector.x + y * vector.y))
+    }
+}
+
+#[cfg(feature = "dim2")]
+impl Mul for Matrix<Real> {
+    type Output = Self;
+
+    fn mul(self, other: Self) -> Self {
+        let columns = other.transpose().0;
+        SMatrix(self.0.map(|[x, y]| columns.map(|column| x * column[0] + y * column[1])))
     }
 }
 

@@ -1,17 +1,21 @@
-//! The handed-over scatter and update on the records that the port is lent, in two dimensions. What the Rust would find out by
-//! sorting (regions, their particles, the particles' order) is set from the port's lists, and so is what shapes would answer.
+//! The handed-over scatter, update and gather on the records that the port is lent, in two dimensions. What the Rust would find out by
+//! sorting (regions, their particles, the particles' order) is set from the port's lists, and so is what shapes and models would answer.
 
 use crate::colliders::{Collider, ColliderSet};
-use crate::core::prelude::{ActiveTimestepBounds, CoreConstitutiveModel};
-use crate::dynamics::models::ConstitutiveModel;
-use crate::dynamics::solver::{BoundaryHandling, MlsSolver, RigidWorld, SimulationDofs};
-use crate::dynamics::{GridNode, GridNodeFlags, Particle, ParticleModel, ParticleModelHandle, ParticleModelSet, ParticleSet};
+use crate::dynamics::solver::{BoundaryHandling, DamageModel, MlsSolver, RigidWorld, SimulationDofs};
+use crate::dynamics::{GridNode, GridNodeFlags, Particle, ParticleModelHandle, ParticleModelSet, ParticleSet};
 use crate::geometry::{way_in, SpGrid};
+use crate::given::{self, Between, Host, Numbers};
 use crate::math::{Matrix, Real, SMatrix, Vector};
 use crate::query::PointProjection;
 use crate::MmapMut;
-use samples::{Boundary, Call, NODE_FLOATS, PARTICLE_FLOATS, PARTICLE_WORDS, PROJECTION_FLOATS, REGION_NODES};
+use samples::particle::*;
+use samples::substeps::Substep;
+use samples::{
+    Boundary, Call, Records, GIVEN_FLOATS, NODE_FLOATS, PARTICLE_FLOATS, PARTICLE_WORDS, PROJECTION_FLOATS, REGION_NODES,
+};
 use std::ops::Range;
+use std::sync::Arc;
 
 /// All that the Rust's stages work on.
 pub struct Scene {
@@ -21,38 +25,116 @@ pub struct Scene {
     /// The port's words of the nodes, which say more than whether a flag is on.
     words: Vec<u32>,
     grid: SpGrid<GridNode>,
+    /// The port's particles, which have fields that the Rust's have not.
+    records: Vec<Record>,
     particles: ParticleSet,
     models: ParticleModelSet,
+    handles: Handles,
+    numbers: Arc<Numbers>,
+    between: Option<Arc<Between>>,
+    damage_model: DamageModel,
     colliders: ColliderSet,
     boundary_handling: BoundaryHandling,
     simulation_dofs: SimulationDofs,
 }
+
+/// The models of solids and of fluids.
+type Handles = [ParticleModelHandle; 2];
 
 impl Scene {
     /// The scene of a call that no rule refuses, its nodes in this memory.
     pub fn new(call: &Call, memory: MmapMut) -> Self {
         let grid = way_in::over(call.cell_width, memory);
         let records: Vec<Record> = records(call).collect();
+        let numbers = Arc::new(numbers(call, &records));
         let mut models = ParticleModelSet::new();
-        let stresses = records.iter().map(|record| by_rows(&record.floats[8..12])).collect();
-        let model = models.insert(ParticleModel::new(GivenStress(stresses)));
+        let handles = [false, true].map(|is_fluid| models.insert(given::model(is_fluid, &numbers)));
         let mut particles = ParticleSet::new();
-        particles.set_particles(records.iter().enumerate().map(|(place, record)| record.made(place, &grid, model)).collect());
+        particles.set_particles(all_made(&records, &grid, handles));
         particles.regions = regions(call);
+        particles.particle_bins = bins(records.len());
         let mut scene = Scene {
             dt: call.dt,
             gravity: Vector::from(call.gravity),
             ids: call.ids.clone(),
             words: call.node_words.clone(),
             grid,
+            records,
             particles,
             models,
+            handles,
+            numbers,
+            between: None,
+            damage_model: if call.gather.eigenerosion == 0 { DamageModel::None } else { DamageModel::ModifiedEigenerosion },
             colliders: colliders(&call.boundary),
             boundary_handling: boundary_handling(call.boundary.handling),
             simulation_dofs: SimulationDofs::from_bits_unchecked(call.boundary.locks),
         };
         scene.set_nodes(call);
         scene
+    }
+
+    /// The particles that the first half of gather leaves to the second.
+    pub fn first_half(call: &Call) -> Records {
+        let mut scene = Scene::new(call, MmapMut::sparse());
+        scene.host(&vec![None; scene.records.len()]);
+        scene.gather();
+        scene.left()
+    }
+
+    /// The particles that the second half of gather leaves of the call's own.
+    pub fn second_half(call: &Call) -> Records {
+        let mut scene = Scene::halfway(call);
+        scene.gather();
+        scene.particles()
+    }
+
+    /// A whole substep, whose gather is one call with the host in its midst: the nodes after the update, the particles after the first
+    /// half and those after the second.
+    pub fn substep(substep: &Substep) -> [Records; 3] {
+        let mut scene = Scene::new(&substep.call, MmapMut::sparse());
+        scene.clear();
+        scene.scatter();
+        scene.update();
+        let nodes = scene.nodes();
+        scene.host(&substep.rewritten);
+        scene.gather();
+        [nodes, scene.left(), scene.particles()]
+    }
+
+    /// The scene of a call to the second half of gather, which has no positions and no nodes to go by. Its first half has particles at
+    /// one place and nodes of zeros, and the call's own particles stand in for what it leaves.
+    fn halfway(call: &Call) -> Self {
+        let count = call.particles as usize;
+        let mut particle_floats = vec![0; count * PARTICLE_FLOATS];
+        particle_floats.chunks_exact_mut(PARTICLE_FLOATS).for_each(|floats| floats[POSITION..][..2].fill(1f32.to_bits()));
+        let at_one_place = Call {
+            ranges: vec![0, call.particles],
+            particles: call.particles,
+            particle_floats,
+            particle_words: call.particle_words.clone(),
+            gather: call.gather.clone(),
+            ..Call::on(vec![0])
+        };
+        let mut scene = Scene::new(&at_one_place, MmapMut::sparse());
+        scene.records = records(call).collect();
+        let replaced = all_made(&scene.records, &scene.grid, scene.handles);
+        scene.let_in(Host::Replaces(replaced));
+        scene
+    }
+
+    /// Lets a host in between the halves, who has an F of his own for some of the particles.
+    fn host(&mut self, rewritten: &[Option<[u32; 4]>]) {
+        let matrix = |bits: &[u32; 4]| by_rows(&bits.map(Real::from_bits));
+        self.let_in(Host::Rewrites(rewritten.iter().map(|rewritten| rewritten.as_ref().map(matrix)).collect()));
+    }
+
+    fn let_in(&mut self, host: Host) {
+        let between = Arc::new(Between::new(host, &self.numbers, self.particles.particles()));
+        for handle in self.handles {
+            self.models[handle].plastic_model = Some(between.clone());
+        }
+        self.between = Some(between);
     }
 
     /// Leaves its particles to one region alone. The Rust has no call for one region: this makes it one.
@@ -69,6 +151,31 @@ impl Scene {
         let rigid_world = RigidWorld { colliders: &self.colliders };
         let Scene { dt, grid, particles, boundary_handling, simulation_dofs, .. } = self;
         MlsSolver::grid_update(*dt, &rigid_world, grid, particles, *boundary_handling, *simulation_dofs);
+    }
+
+    /// Both halves of gather, which are one call in the Rust; a host stands between them only where one was let in. Particles are not
+    /// projected.
+    pub fn gather(&mut self) {
+        let rigid_world = RigidWorld { colliders: &self.colliders };
+        let Scene { damage_model, dt, grid, particles, models, .. } = self;
+        MlsSolver::grid_to_particle(*damage_model, false, *dt, &rigid_world, grid, particles, models);
+    }
+
+    /// The particles, as the port has them.
+    pub fn particles(&self) -> Records {
+        together(self.particles.iter().zip(&self.records).map(|(particle, record)| record.after(particle)))
+    }
+
+    /// The particles as the first half left them to the host.
+    fn left(&self) -> Records {
+        let left = self.between.as_ref().expect("a host").left();
+        together(left.iter().zip(&self.records).map(|(particle, record)| record.after(particle)))
+    }
+
+    /// Puts the particles back to where the call had them.
+    pub fn put_back(&mut self) {
+        let made = all_made(&self.records, &self.grid, self.handles);
+        self.particles.particles_mut().copy_from_slice(&made);
     }
 
     /// What `ParticleSet::sort` does to the nodes of the regions that it found before; it does not do this alone.
@@ -88,7 +195,7 @@ impl Scene {
     }
 
     /// The nodes' floats, by their bits, and words.
-    pub fn nodes(&self) -> (Vec<u32>, Vec<u32>) {
+    pub fn nodes(&self) -> Records {
         let found = || self.ids.iter().flat_map(|region| cells(*region)).map(|cell| self.grid.get_packed(cell));
         let words = found().zip(&self.words).map(|(node, word)| node_word(node, *word));
         (found().flat_map(node_bits).collect(), words.collect())
@@ -170,6 +277,32 @@ fn regions(call: &Call) -> Vec<(u64, Range<usize>)> {
     call.ids.iter().copied().zip(ranges).collect()
 }
 
+/// Four particles each, as `sort` fills them at the most, and what says that there are no more.
+fn bins(particles: usize) -> Vec<[usize; 5]> {
+    let places: Vec<usize> = (0..particles).collect();
+    let bin = |places: &[usize]| {
+        let mut bin = [usize::MAX; 5];
+        bin[..places.len()].copy_from_slice(places);
+        bin
+    };
+    places.chunks(4).map(bin).collect()
+}
+
+/// What models say of these particles. A call that is not of the second half says nothing, and then what is said does not matter.
+fn numbers(call: &Call, records: &[Record]) -> Numbers {
+    let given = |place: usize, otherwise: Real| {
+        let said = call.gather.given_floats.iter().skip(place).step_by(GIVEN_FLOATS).map(|bits| Real::from_bits(*bits));
+        said.chain(std::iter::repeat(otherwise)).take(records.len()).collect()
+    };
+    let failures = call.gather.given_words.iter().map(|word| *word != 0).chain(std::iter::repeat(false));
+    Numbers {
+        stresses: records.iter().map(|record| by_rows(&record.floats[STRESS..])).collect(),
+        densities: given(0, 1.0),
+        energies: given(1, 0.0),
+        failures: failures.take(records.len()).collect(),
+    }
+}
+
 /// A particle as the port is lent it.
 struct Record {
     floats: Vec<Real>,
@@ -182,58 +315,77 @@ fn records(call: &Call) -> impl Iterator<Item = Record> + '_ {
     records.map(move |(bits, words)| Record { floats: floats(bits), words: words.to_vec() })
 }
 
+/// The Rust's particles.
+fn all_made(records: &[Record], grid: &SpGrid<GridNode>, handles: Handles) -> Vec<Particle> {
+    records.iter().enumerate().map(|(place, record)| record.made(place, grid, handles)).collect()
+}
+
+fn together(records: impl Iterator<Item = ([Real; PARTICLE_FLOATS], [u32; PARTICLE_WORDS])>) -> Records {
+    let (floats, words): (Vec<_>, Vec<_>) = records.map(|(floats, words)| (floats.map(Real::to_bits), words)).unzip();
+    (floats.concat(), words.concat())
+}
+
 impl Record {
+    fn pair(&self, place: usize) -> Vector<Real> {
+        Vector::from([self.floats[place], self.floats[place + 1]])
+    }
+
     /// The Rust's particle, with the fields that the record has; the others are as a new particle has them.
-    fn made(&self, place: usize, grid: &SpGrid<GridNode>, model: ParticleModelHandle) -> Particle {
+    fn made(&self, place: usize, grid: &SpGrid<GridNode>, handles: Handles) -> Particle {
         let Record { floats, words } = self;
-        let pair = |place: usize| Vector::from([floats[place], floats[place + 1]]);
+        let position = self.pair(POSITION);
         Particle {
-            velocity: pair(2),
-            velocity_gradient: by_rows(&floats[4..8]),
-            mass: floats[12],
-            volume0: floats[13],
-            phase: floats[14],
-            crack_propagation_factor: floats[15],
-            psi_pos: floats[16],
-            deformation_gradient: by_rows(&floats[17..21]),
-            crack_threshold: floats[21],
-            parameter1: floats[22],
-            parameter2: floats[23],
-            kinematic_vel: (words[1] != 0).then(|| pair(24)),
-            failed: words[0] != 0,
-            is_static: words[3] != 0,
-            grid_index: grid.cell_associated_to_point(&pair(0)),
+            velocity: self.pair(VELOCITY),
+            velocity_gradient: by_rows(&floats[GRADIENT..]),
+            mass: floats[MASS],
+            volume0: floats[VOLUME],
+            phase: floats[PHASE],
+            crack_propagation_factor: floats[CRACK_FACTOR],
+            psi_pos: floats[PSI],
+            deformation_gradient: by_rows(&floats[DEFORMATION..]),
+            crack_threshold: floats[CRACK_THRESHOLD],
+            parameter1: floats[PARAMETER1],
+            parameter2: floats[PARAMETER2],
+            kinematic_vel: (words[KINEMATIC] != 0).then(|| self.pair(KINEMATIC_VELOCITY)),
+            failed: words[FAILED] != 0,
+            is_static: words[STATIC] != 0,
+            grid_index: grid.cell_associated_to_point(&position),
             user_data: place as u64,
-            ..Particle::new(model, pair(0), 0.0, 0.0)
+            ..Particle::new(handles[usize::from(words[FLUID] != 0)], position, 0.0, 0.0)
         }
     }
+
+    /// The record that the particle which was made of this one is now. It has the volume from here, which a gather does not write and a
+    /// given density may have changed, and what a particle has not: the stress, its kind, a kinematic velocity without its flag.
+    fn after(&self, particle: &Particle) -> ([Real; PARTICLE_FLOATS], [u32; PARTICLE_WORDS]) {
+        let Particle { position, velocity, velocity_gradient, deformation_gradient, .. } = particle;
+        let kinematic = particle.kinematic_vel.unwrap_or_else(|| self.pair(KINEMATIC_VELOCITY));
+        let mut floats = [0.0; PARTICLE_FLOATS];
+        for (place, pair) in [(POSITION, position), (VELOCITY, velocity), (KINEMATIC_VELOCITY, &kinematic)] {
+            floats[place..][..2].copy_from_slice(&[pair.x, pair.y]);
+        }
+        for (place, matrix) in [(GRADIENT, velocity_gradient), (DEFORMATION, deformation_gradient)] {
+            floats[place..][..4].copy_from_slice(&matrix.0.concat());
+        }
+        floats[STRESS..][..4].copy_from_slice(&self.floats[STRESS..][..4]);
+        floats[MASS] = particle.mass;
+        floats[VOLUME] = self.floats[VOLUME];
+        floats[PHASE] = particle.phase;
+        floats[CRACK_FACTOR] = particle.crack_propagation_factor;
+        floats[PSI] = particle.psi_pos;
+        floats[CRACK_THRESHOLD] = particle.crack_threshold;
+        floats[PARAMETER1] = particle.parameter1;
+        floats[PARAMETER2] = particle.parameter2;
+        let mut words = [0; PARTICLE_WORDS];
+        words[FAILED] = u32::from(particle.failed);
+        words[KINEMATIC] = u32::from(particle.kinematic_vel.is_some());
+        words[FLUID] = self.words[FLUID];
+        words[STATIC] = u32::from(particle.is_static);
+        (floats, words)
+    }
 }
 
+/// The matrix whose rows begin here.
 fn by_rows(floats: &[Real]) -> Matrix<Real> {
     SMatrix([[floats[0], floats[1]], [floats[2], floats[3]]])
-}
-
-/// A model that answers the stress of the port's record, by the particle's place in the list; nothing else of it is asked.
-struct GivenStress(Vec<Matrix<Real>>);
-
-impl ConstitutiveModel for GivenStress {
-    fn is_fluid(&self) -> bool {
-        unimplemented!()
-    }
-
-    fn update_particle_stress(&self, particle: &Particle) -> Matrix<Real> {
-        self.0[particle.user_data as usize]
-    }
-
-    fn active_timestep_bounds(&self) -> ActiveTimestepBounds {
-        unimplemented!()
-    }
-
-    fn timestep_bound(&self, _: &Particle, _: Real) -> Real {
-        unimplemented!()
-    }
-
-    fn to_core_model(&self) -> Option<CoreConstitutiveModel> {
-        None
-    }
 }

@@ -149,8 +149,8 @@ pub mod data {
     }
 }
 
-/// For `sparkl2d_core`: an update's settings; and what models say to a graphics card or to whoever chooses a substep's length, which
-/// nothing here asks, so that there are no values of it.
+/// For `sparkl2d_core`: the settings of an update and of a gather; and what models say to a graphics card or to whoever chooses a
+/// substep's length, which nothing here asks, so that there are no values of it.
 pub mod core {
     #[cfg(feature = "dim2")]
     pub mod dynamics {
@@ -161,6 +161,14 @@ pub mod core {
                 Stick,
                 Friction,
                 FrictionZUp,
+            }
+
+            #[derive(Copy, Clone, Debug, PartialEq)]
+            pub enum DamageModel {
+                None,
+                CdMpm,
+                Eigenerosion,
+                ModifiedEigenerosion,
             }
 
             crate::bitflags! {

@@ -1,6 +1,6 @@
 //! What the handed-over Rust has no function for, as documents 01 and 02 say it, and nothing that is taken from the port.
 
-use samples::{plane, Boundary, Call};
+use samples::{plane, Boundary, Call, Gather};
 
 /// Document 02, request 09: the lower part of a list has the floor of half of it, the upper part is kept if its first id is at
 /// most the sought one, and of one entry or none nothing is left to halve.
@@ -79,7 +79,7 @@ fn unless(holds: bool) -> Option<usize> {
 /// What the table says of a call of scatter: 1 to 10.
 pub fn scatter(which: &Which, call: &Call) -> Option<Refusal> {
     refused(1, unless(scatter_counts(which, call)))
-        .or_else(|| refused(2, unless(call.regions <= MOST_REGIONS && call.particles <= MOST_PARTICLES)))
+        .or_else(|| refused(2, unless(regions_and_particles_are_few(call))))
         .or_else(|| refused(3, unless(width_and_dt_are_good(call) && gravity_is_good(call))))
         .or_else(|| refused(4, bad_place(which, &call.ids)))
         .or_else(|| refused(4, first_record_with(&call.particle_words, PARTICLE_WORDS, is_no_flag)))
@@ -112,6 +112,10 @@ fn scatter_counts(which: &Which, call: &Call) -> bool {
         _ => true,
     };
     order_counts && lengths.iter().all(|(length, count, each)| *length as u128 == u128::from(*count) * u128::from(*each))
+}
+
+fn regions_and_particles_are_few(call: &Call) -> bool {
+    call.regions <= MOST_REGIONS && call.particles <= MOST_PARTICLES
 }
 
 fn width_and_dt_are_good(call: &Call) -> bool {
@@ -222,9 +226,8 @@ fn update_counts(call: &Call) -> bool {
 /// 4 and 5 its own settings, then particles, then colliders, then projections.
 pub fn clear_scatter_update(call: &Call) -> Option<Refusal> {
     let Boundary { colliders, frictions, points, insides, .. } = &call.boundary;
-    let few_enough = call.regions <= MOST_REGIONS && call.particles <= MOST_PARTICLES && *colliders <= MOST_COLLIDERS;
     refused(1, unless(scatter_counts(&Which::All, call) && update_counts(call)))
-        .or_else(|| refused(2, unless(few_enough)))
+        .or_else(|| refused(2, unless(regions_and_particles_are_few(call) && *colliders <= MOST_COLLIDERS)))
         .or_else(|| refused(3, unless(width_and_dt_are_good(call) && gravity_is_good(call))))
         .or_else(|| refused(4, unless(codes_are_good(&call.boundary))))
         .or_else(|| refused(4, first_record_with(&call.particle_words, PARTICLE_WORDS, is_no_flag)))
@@ -233,6 +236,41 @@ pub fn clear_scatter_update(call: &Call) -> Option<Refusal> {
         .or_else(|| refused(5, first_record_with(frictions, 1, is_not_finite)))
         .or_else(|| refused(5, first_record_with(points, PROJECTION_FLOATS, is_not_finite)))
         .or_else(|| ids_ranges_and_positions(call))
+}
+
+/// Of each particle the second half is given a density and an energy, and whether it failed.
+pub const GIVEN_FLOATS: u64 = 1 + 1;
+pub const GIVEN_WORDS: u64 = 1;
+
+/// What the table says of the first half of gather: 1 to 10, without gravity. It is given the lists that a scatter is, and its own
+/// setting, ahead of records in 4, is a flag.
+pub fn first_half(call: &Call) -> Option<Refusal> {
+    refused(1, unless(scatter_counts(&Which::All, call)))
+        .or_else(|| refused(2, unless(regions_and_particles_are_few(call))))
+        .or_else(|| refused(3, unless(width_and_dt_are_good(call))))
+        .or_else(|| refused(4, unless(!is_no_flag(call.gather.eigenerosion))))
+        .or_else(|| refused(4, first_record_with(&call.particle_words, PARTICLE_WORDS, is_no_flag)))
+        .or_else(|| refused(5, first_record_with(&call.particle_floats, PARTICLE_FLOATS, is_not_finite)))
+        .or_else(|| ids_ranges_and_positions(call))
+}
+
+/// What the table says of the second half of gather, which is given particles and a list beside them: 1, 2, 4, 5, and in 4 and 5
+/// particles first.
+pub fn second_half(call: &Call) -> Option<Refusal> {
+    let Gather { given_floats, given_words, .. } = &call.gather;
+    refused(1, unless(second_half_counts(call)))
+        .or_else(|| refused(2, unless(call.particles <= MOST_PARTICLES)))
+        .or_else(|| refused(4, first_record_with(&call.particle_words, PARTICLE_WORDS, is_no_flag)))
+        .or_else(|| refused(4, first_record_with(given_words, GIVEN_WORDS, is_no_flag)))
+        .or_else(|| refused(5, first_record_with(&call.particle_floats, PARTICLE_FLOATS, is_not_finite)))
+        .or_else(|| refused(5, first_record_with(given_floats, GIVEN_FLOATS, is_not_finite)))
+}
+
+fn second_half_counts(call: &Call) -> bool {
+    let Gather { given_floats, given_words, .. } = &call.gather;
+    let lists = [(&call.particle_floats, PARTICLE_FLOATS), (&call.particle_words, PARTICLE_WORDS)];
+    let given = [(given_floats, GIVEN_FLOATS), (given_words, GIVEN_WORDS)];
+    lists.iter().chain(&given).all(|(list, each)| list.len() as u128 == u128::from(call.particles) * u128::from(*each))
 }
 
 #[cfg(test)]
@@ -454,6 +492,82 @@ mod tests {
         assert_eq!(of(&["i1=0", "s5=0"]), refused(6, 1));
         assert_eq!(of(&["s5=0", "f0=0"]), refused(7, 3));
         assert_eq!(of(&["f1=40400000", "f0=40400000"]), refused(10, 0));
+    }
+
+    /// What the table says of the halves of a gather of the three, with these changes.
+    fn of_halves(edits: &[&str]) -> [Option<Refusal>; 2] {
+        let gather = Gather { eigenerosion: 1, given_floats: vec![0; 6], given_words: vec![0; 3] };
+        let edits: Vec<_> = edits.iter().map(|edit| edit.parse().unwrap()).collect();
+        let call = Call { gather, ..three() }.edited(&edits);
+        [first_half(&call), second_half(&call)]
+    }
+
+    #[test]
+    fn gathers_that_are_good() {
+        let nodes_of_any_pattern = ["m3=7FC00000", "m5=FF800000", "k4=7"];
+        let largest = ["f16=FF7FFFFF", "g0=7F7FFFFF", "g5=80000000", "v2=1", "w11=1"];
+        for edits in [&[][..], &["e=0"], &["x=7FC00000", "y=7F800000"], &nodes_of_any_pattern, &largest] {
+            assert_eq!(of_halves(edits), [None, None], "{:?}", edits);
+        }
+        assert_eq!([first_half(&Call::on(vec![])), second_half(&Call::on(vec![]))], [None, None]);
+        assert_eq!(first_half(&Call::on(vec![0, 4096])), None);
+    }
+
+    /// Each half looks at what it is given and at nothing else.
+    #[test]
+    fn a_half_does_not_look_at_the_others_lists() {
+        for edits in [&["h=0", "t=0", "e=2", "i1=0", "s5=0", "f0=0"][..], &["r=2"], &["i#0", "s#0", "m#0", "k#0"], &["r=513"]] {
+            let [first, second] = of_halves(edits);
+            assert!(first.is_some() && second.is_none(), "{:?}", edits);
+        }
+        for edits in [&["g#0", "v#0"][..], &["g0=7FC00000", "v0=2"], &["g#7"], &["v#2"]] {
+            let [first, second] = of_halves(edits);
+            assert!(first.is_none() && second.is_some(), "{:?}", edits);
+        }
+    }
+
+    #[test]
+    fn of_a_gather_lengths_come_first_and_then_limits() {
+        for edit in ["i#2", "s#5", "f#77", "w#13", "m#335", "k#49", "r=2", "p=4"] {
+            assert_eq!(of_halves(&[edit, "h=7FC00000", "e=2"])[0], refused(1, 0), "{}", edit);
+        }
+        for edit in ["f#77", "f#79", "w#13", "g#5", "g#7", "v#2", "v#4", "p=2", "p=4", "p=9223372036854775811"] {
+            assert_eq!(of_halves(&[edit, "w0=2", "v0=2"])[1], refused(1, 0), "{}", edit);
+        }
+        for none in
+            [&["p=9223372036854775808", "f#0", "w#0", "g#0", "v#0"], &["p=4611686018427387904", "f#0", "w#0", "g#0", "v#0"]]
+        {
+            assert_eq!(of_halves(none), [refused(1, 0), refused(1, 0)]);
+        }
+        assert_eq!(of_halves(&["*65537", "h=7FC00000", "w0=2"]), [refused(2, 0), refused(2, 0)]);
+        assert_eq!(of_halves(&["r=513", "i#513", "s#1026", "m#57456", "k#8208", "t=0"])[0], refused(2, 0));
+        assert_eq!(of_halves(&["*65536", "w0=2"]), [refused(4, 0), refused(4, 0)]);
+    }
+
+    #[test]
+    fn of_a_gather_flags_come_before_numbers_and_particles_before_what_is_given() {
+        assert_eq!(of_halves(&["h=0", "e=2"])[0], refused(3, 0));
+        assert_eq!(of_halves(&["t=80000000", "e=2"])[0], refused(3, 0));
+        assert_eq!(of_halves(&["e=2", "w5=2"]), [refused(4, 0), refused(4, 1)]);
+        assert_eq!(of_halves(&["e=80000001", "f0=7FC00000"]), [refused(4, 0), refused(5, 0)]);
+        assert_eq!(of_halves(&["w11=2", "v0=2"]), [refused(4, 2), refused(4, 2)]);
+        assert_eq!(of_halves(&["v1=2", "f0=7FC00000"]), [refused(5, 0), refused(4, 1)]);
+        assert_eq!(of_halves(&["f77=7FC00000", "g0=7FC00000", "i1=0"]), [refused(5, 2), refused(5, 2)]);
+        assert_eq!(of_halves(&["g3=FF800000", "g4=7FC00000"]), [None, refused(5, 1)]);
+        assert_eq!(of_halves(&["g2=7F800001"]), [None, refused(5, 1)]);
+    }
+
+    #[test]
+    fn of_a_first_half_ids_come_before_ranges_and_these_before_positions() {
+        let of = |edits: &[&str]| {
+            let [first, _] = of_halves(edits);
+            first
+        };
+        assert_eq!(of(&["i1=0", "s0=1"]), refused(6, 1));
+        assert_eq!(of(&["s5=0", "f0=0"]), refused(7, 3));
+        assert_eq!(of(&["f53=0", "f0=40A00000"]), refused(8, 2));
+        assert_eq!(of(&["f0=40A00000", "f26=40E00000"]), refused(9, 0));
+        assert_eq!(of(&["f26=40E00000"]), refused(10, 1));
     }
 
     #[test]

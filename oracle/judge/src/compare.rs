@@ -1,13 +1,17 @@
-//! Random calls that no rule refuses, through the archive and through the handed-over Rust.
+//! Random calls that no rule refuses, and whole substeps, through the archive and through the handed-over Rust.
 
-use crate::archive::{self, Lists, Which};
+use crate::archive::{self, Which};
 use mangerknot_sys::Refusal;
-use samples::random::{bounded, order, Style};
-use samples::{Call, Rng};
+use samples::random::{bounded, gathered, order, Style};
+use samples::substeps::{self, Answer, Stage, Substep};
+use samples::{Call, Records, Rng, NODE_FLOATS, PARTICLE_FLOATS};
 use sparkl2d::scene::Scene;
 use sparkl2d::MmapMut;
 
-/// Compares so many calls in each of five ways; says whether nothing differs.
+/// How many substeps in a row are made of each call, if none is refused and no particle leaves the grid.
+const SUBSTEPS: usize = 3;
+
+/// Compares so many calls in each of seven ways, and substeps from each; says whether nothing differs.
 pub fn run(seed: u64, count: u64) -> bool {
     println!("machine: {}", crate::machine());
     println!("seed: {}", seed);
@@ -18,55 +22,122 @@ pub fn run(seed: u64, count: u64) -> bool {
         let region = rng.below(call.regions) as usize;
         let order = order(&call, &mut rng);
         let colliders = rng.one_of(&[0, 1, 1, 2, 4, 16]);
-        let call = bounded(call, colliders, &mut rng);
-        for which in [Which::All, Which::Region(region), Which::Order(&order), Which::Update, Which::Sequence] {
-            tally.take(&which, &call, place);
+        let call = gathered(bounded(call, colliders, &mut rng), &mut rng);
+        let scatters = [Which::All, Which::Region(region), Which::Order(&order)];
+        for which in scatters.iter().chain(&[Which::Update, Which::Sequence, Which::FirstHalf, Which::SecondHalf]) {
+            tally.take(which, &call, place);
         }
+        tally.take_substeps(&call, rng.number(), place);
     }
-    println!("calls: {}, each of a scatter of all regions, of one and in an order, of an update and of the sequence", count);
+    println!(
+        "calls: {}, each of a scatter of all regions, of one and in an order, of an update, of the sequence, of a gather's halves",
+        count
+    );
+    println!("substeps: {} in a row from each, {} in all, {} of them refused", SUBSTEPS, tally.substeps, tally.refused);
     println!("differ: {}", tally.differ);
-    println!("nodes hit or moved: {}, of which {} have a NaN or an infinity", tally.written, tally.strange);
+    println!("nodes hit or moved: {}, of which {} have a NaN or an infinity", tally.nodes.written, tally.nodes.strange);
+    println!("particles moved: {}, of which {} have a NaN or an infinity", tally.particles.written, tally.particles.strange);
     tally.differ == 0
 }
 
 #[derive(Default)]
 struct Tally {
     differ: u64,
+    substeps: u64,
+    refused: u64,
+    nodes: Written,
+    particles: Written,
+}
+
+/// How many records were written, and how many of them have a float that is not finite.
+#[derive(Default)]
+struct Written {
     written: u64,
     strange: u64,
 }
 
-impl Tally {
-    fn take(&mut self, which: &Which, call: &Call, place: u64) {
-        let (port, rust) = (ports(which, call), rusts(which, call));
-        if port.as_ref() != Ok(&rust) {
-            self.differ += 1;
-            if self.differ == 1 {
-                say_difference(call, place, &port, &rust);
-            }
-        }
-        let written = rust.iter().filter(|node| *node != "=");
+impl Written {
+    fn take(&mut self, records: &[String], floats: usize) {
+        let written = records.iter().filter(|record| *record != "=");
         self.written += written.clone().count() as u64;
-        self.strange += written.filter(|node| is_strange(node)).count() as u64;
+        self.strange += written.filter(|record| is_strange(record, floats)).count() as u64;
     }
 }
 
-/// Whether one of a node's floats has an infinity's or a NaN's exponent.
-fn is_strange(node: &str) -> bool {
-    let words = (0..7).map(|place| u32::from_str_radix(&node[8 * place..8 * place + 8], 16).expect("8 hex digits"));
+/// What a call leaves, record by record, or its number and index.
+type Left = Result<Vec<String>, (u32, usize)>;
+
+impl Tally {
+    fn take(&mut self, which: &Which, call: &Call, place: u64) {
+        let (port, rust) = (ports(which, call), rusts(which, call));
+        let fields = || if which.writes_particles() { call.gather_fields() } else { call.bounded_fields() };
+        self.hold(&port, &Ok(rust), which.writes_particles(), || format!("call {}: {}", place, fields().join("\t")));
+    }
+
+    fn take_substeps(&mut self, call: &Call, seed: u64, place: u64) {
+        substeps::run(call, seed, SUBSTEPS, |substep| {
+            let (port, rust) = (substep.in_turn(ports_stage), rusts_substep(substep));
+            self.substeps += 1;
+            self.refused += u64::from(rust.iter().any(Result::is_err));
+            let say = |stage: usize| {
+                format!("stage {} of substeps of {} from call {}: {}", stage, seed, place, call.fields().join("\t"))
+            };
+            let lefts = |answers: &[Answer]| -> Vec<Left> {
+                answers.iter().enumerate().map(|(stage, answer)| left(substep, stage, answer)).collect()
+            };
+            let (port, lefts) = (lefts(&port), lefts(&rust));
+            self.differ += u64::from(port.len() != lefts.len());
+            for (stage, (port, rust)) in port.iter().zip(&lefts).enumerate() {
+                self.hold(port, rust, stage > 0, || say(stage));
+            }
+            rust
+        });
+    }
+
+    /// Holds what the port leaves against what the Rust does; the first difference is said.
+    fn hold(&mut self, port: &Left, rust: &Left, are_particles: bool, what: impl FnOnce() -> String) {
+        if port != rust {
+            self.differ += 1;
+            if self.differ == 1 {
+                println!("differs: {}", what());
+                say_difference(port, rust);
+            }
+        }
+        let records = rust.as_deref().unwrap_or_default();
+        match are_particles {
+            true => self.particles.take(records, PARTICLE_FLOATS),
+            false => self.nodes.take(records, NODE_FLOATS),
+        }
+    }
+}
+
+/// Whether one of a record's floats has an infinity's or a NaN's exponent.
+fn is_strange(record: &str, floats: usize) -> bool {
+    let words = (0..floats).map(|place| u32::from_str_radix(&record[8 * place..8 * place + 8], 16).expect("8 hex digits"));
     words.into_iter().any(|bits| !f32::from_bits(bits).is_finite())
 }
 
-fn ports(which: &Which, call: &Call) -> Result<Vec<String>, Refusal> {
-    let (mut node_floats, mut node_words) = (call.node_floats.clone(), call.node_words.clone());
-    match archive::answer(which, call, Lists::of(call, &mut node_floats, &mut node_words)) {
-        Refusal { number: 0, .. } => Ok(written(which, call, (&node_floats, &node_words), || call.hits(only(which)))),
-        refusal => Err(refusal),
+/// What the archive leaves; what a call does not write is as it was, bit for bit.
+fn ports(which: &Which, call: &Call) -> Left {
+    let mut after = call.clone();
+    let Refusal { number, index } = archive::answer_in_place(which, &mut after);
+    let nodes_are_kept = (&after.node_floats, &after.node_words) == (&call.node_floats, &call.node_words);
+    let particles_are_kept = (&after.particle_floats, &after.particle_words) == (&call.particle_floats, &call.particle_words);
+    assert!(if which.writes_particles() { nodes_are_kept } else { particles_are_kept }, "written beside what it may write");
+    match number {
+        0 if which.writes_particles() => Ok(call.particles_answered((&after.particle_floats, &after.particle_words))),
+        0 => Ok(written(which, call, (&after.node_floats, &after.node_words), || call.hits(only(which)))),
+        number => Err((number, index)),
     }
 }
 
 /// The Rust has no order of its own to be given: the nodes of any order by colours have to be those of its scatter.
 fn rusts(which: &Which, call: &Call) -> Vec<String> {
+    match which {
+        Which::FirstHalf => return particles(call, &Scene::first_half(call)),
+        Which::SecondHalf => return particles(call, &Scene::second_half(call)),
+        _ => {}
+    }
     let mut scene = Scene::new(call, MmapMut::sparse());
     match which {
         Which::Update => scene.update(),
@@ -84,6 +155,10 @@ fn rusts(which: &Which, call: &Call) -> Vec<String> {
     written(which, call, (&floats, &words), || scene.hits())
 }
 
+fn particles(call: &Call, (floats, words): &Records) -> Vec<String> {
+    call.particles_answered((floats, words))
+}
+
 /// The nodes afterwards, as an answer has them; each side says by itself which of them a scatter hit.
 fn written(which: &Which, call: &Call, nodes: (&[u32], &[u32]), hits: impl FnOnce() -> Vec<bool>) -> Vec<String> {
     match which {
@@ -99,15 +174,46 @@ fn only(which: &Which) -> Option<usize> {
     }
 }
 
-/// The first difference, with the call in the fields of a line of vectors.
-fn say_difference(call: &Call, place: u64, port: &Result<Vec<String>, Refusal>, rust: &[String]) {
-    println!("call {} differs: {}", place, call.bounded_fields().join("\t"));
-    match port {
-        Err(refusal) => println!("refused: {:?}", refusal),
-        Ok(port) => {
-            let node = port.iter().zip(rust).position(|(port, rust)| port != rust).unwrap_or(0);
-            println!("node {}: {} and not {}", node, port[node], rust[node]);
+fn ports_stage(stage: Stage, call: &Call) -> Answer {
+    let (mut after, which) = (call.clone(), Which::from(stage));
+    match archive::answer_in_place(&which, &mut after) {
+        Refusal { number: 0, .. } if which.writes_particles() => Ok((after.particle_floats, after.particle_words)),
+        Refusal { number: 0, .. } => Ok((after.node_floats, after.node_words)),
+        Refusal { number, index } => Err((number, index)),
+    }
+}
+
+/// What the Rust leaves of a substep. It refuses nothing; what has to be refused here can only be a number of a particle that is not
+/// finite.
+fn rusts_substep(substep: &Substep) -> Vec<Answer> {
+    let refused = |call: &Call| call.particle_floats.iter().position(|bits| !f32::from_bits(*bits).is_finite());
+    let refusal = |place: usize| Err((5, place / PARTICLE_FLOATS));
+    if let Some(place) = refused(&substep.call) {
+        return vec![refusal(place)];
+    }
+    let [nodes, left, last] = Scene::substep(substep);
+    let last = refused(&substep.handed_over(&left)).map_or(Ok(last), refusal);
+    vec![Ok(nodes), Ok(left), last]
+}
+
+/// A stage's answer, record by record: of the first stage nodes, of the halves particles.
+fn left(substep: &Substep, stage: usize, answer: &Answer) -> Left {
+    match answer {
+        Err(refusal) => Err(*refusal),
+        Ok((floats, words)) if stage == 0 => Ok(substep.call.all_answered((floats, words))),
+        Ok(records) => Ok(particles(&substep.call, records)),
+    }
+}
+
+fn say_difference(port: &Left, rust: &Left) {
+    match (port, rust) {
+        (Ok(port), Ok(rust)) => {
+            let record = port.iter().zip(rust).position(|(port, rust)| port != rust).unwrap_or(0);
+            println!("record {}: {} and not {}", record, port[record], rust[record]);
         }
+        (Err(port), Err(rust)) => println!("refused by {:?} and not by {:?}", port, rust),
+        (Err(refusal), Ok(_)) => println!("refused by {:?}", refusal),
+        (Ok(_), Err(refusal)) => println!("not refused by {:?}", refusal),
     }
 }
 
@@ -121,7 +227,7 @@ mod tests {
         let other = Call { dt: call.dt * 2.0, gravity: [1.0, 1.0], ..call.clone() };
         assert_ne!(rusts(&Which::All, &call), rusts(&Which::All, &other));
         assert_eq!(ports(&Which::All, &call), Ok(rusts(&Which::All, &call)));
-        assert_eq!(ports(&Which::Region(9), &call), Err(Refusal { number: 4, index: 0 }));
+        assert_eq!(ports(&Which::Region(9), &call), Err((4, 0)));
     }
 
     #[test]
@@ -136,12 +242,54 @@ mod tests {
         (stuck.boundary.handling, stuck.boundary.locks) = (samples::STICK, 1);
         assert_ne!(rusts(&Which::Sequence, &call), rusts(&Which::Sequence, &stuck));
         stuck.boundary.handling = 4;
-        assert_eq!(ports(&Which::Update, &stuck), Err(Refusal { number: 4, index: 0 }));
+        assert_eq!(ports(&Which::Update, &stuck), Err((4, 0)));
     }
 
     #[test]
-    fn strange_nodes_are_counted() {
-        assert!(is_strange(&("0".repeat(48) + "7F800000" + "00000000")));
-        assert!(!is_strange(&("7F7FFFFF".repeat(7) + "FFFFFFFF")));
+    fn what_is_gathered_is_told_apart() {
+        let mut rng = Rng::new(1);
+        let call = gathered(Style::plain(1.0, [0, 0], [3, 3], 9).sample(&mut rng), &mut rng);
+        for which in [Which::FirstHalf, Which::SecondHalf] {
+            assert_eq!(ports(&which, &call), Ok(rusts(&which, &call)));
+        }
+        assert_ne!(rusts(&Which::FirstHalf, &call), rusts(&Which::SecondHalf, &call));
+        let mut other = call.clone();
+        other.particle_floats[samples::particle::MASS] ^= 1;
+        assert_ne!(rusts(&Which::SecondHalf, &call), rusts(&Which::SecondHalf, &other));
+        other.gather.eigenerosion = 2;
+        assert_eq!(ports(&Which::FirstHalf, &other), Err((4, 0)));
+    }
+
+    /// A first half that overflows ends a substep on both sides, with the second half's number.
+    #[test]
+    fn substeps_are_told_apart_and_refused_alike() {
+        let mut rng = Rng::new(1);
+        let call = Call { dt: 0.01, ..Style::plain(1.0, [9, 9], [3, 3], 4).sample(&mut rng) };
+        let mut tally = Tally::default();
+        tally.take_substeps(&call, 7, 0);
+        assert_eq!((tally.differ, tally.refused), (0, 0));
+        assert_eq!(tally.substeps, SUBSTEPS as u64);
+        let huge = Style { numbers: samples::random::Numbers::Huge, ..Style::plain(1.0, [9, 9], [3, 3], 4) };
+        let call = Call { dt: 1.0, ..huge.sample(&mut rng) };
+        tally.take_substeps(&call, 7, 0);
+        assert_eq!((tally.differ, tally.refused), (0, 1));
+    }
+
+    #[test]
+    fn strange_records_are_counted() {
+        assert!(is_strange(&("0".repeat(48) + "7F800000" + "00000000"), NODE_FLOATS));
+        assert!(!is_strange(&("7F7FFFFF".repeat(7) + "FFFFFFFF"), NODE_FLOATS));
+        let particle = "0".repeat(200) + "FFC00000" + &"0".repeat(32);
+        assert!(is_strange(&particle, PARTICLE_FLOATS));
+    }
+
+    #[test]
+    fn a_difference_is_counted() {
+        let mut tally = Tally::default();
+        let (one, other) = (Ok(vec!["=".to_string()]), Err((5, 0)));
+        tally.hold(&one, &one, true, String::new);
+        tally.hold(&one, &other, true, String::new);
+        tally.hold(&other, &Err((5, 1)), true, String::new);
+        assert_eq!(tally.differ, 2);
     }
 }

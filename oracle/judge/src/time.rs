@@ -1,9 +1,10 @@
-//! How long clear, scatter and update take on as many particles and regions as there may be, here and in the handed-over Rust.
+//! How long clear, scatter, update and gather take on as many particles and regions as there may be, here and in the handed-over Rust.
 
-use crate::archive::{self, Lists, Which};
+use crate::archive::{self, Which};
 use mangerknot_sys::{mk_clear2, Refusal};
+use samples::particle::FLUID;
 use samples::random::bounded;
-use samples::{plane, Call, Rng, FRICTION, PARTICLE_FLOATS, PARTICLE_WORDS};
+use samples::{plane, Call, Gather, Records, Rng, FRICTION, PARTICLE_FLOATS, PARTICLE_WORDS};
 use sparkl2d::scene::Scene;
 use sparkl2d::MmapMut;
 use std::time::{Duration, Instant};
@@ -14,7 +15,7 @@ const ROWS: u32 = 16;
 const PARTICLES: usize = 65_536;
 const COLLIDERS: usize = 4;
 
-/// Times each side so often, in turn; says whether both leave the same nodes.
+/// Times each side so often, in turn; says whether both leave the same nodes and the same particles.
 pub fn run(repetitions: usize) -> bool {
     println!("machine: {}; one thread; {} repetitions, medians", crate::machine(), repetitions);
     let call = full_call();
@@ -22,6 +23,7 @@ pub fn run(repetitions: usize) -> bool {
     let mut port = Port { call: call.clone() };
     let mut rust = Rust { scene: Scene::new(&call, memory(&call)) };
     let mut times = Times::default();
+    let mut same_particles = true;
     // A region without particles is scattered after the check of everything, and to no node.
     let empty = Which::Region(call.regions as usize - 1);
     for _ in 0..repetitions {
@@ -29,18 +31,38 @@ pub fn run(repetitions: usize) -> bool {
         times.port_scatter.push(timed(|| port.ask(&Which::All)));
         times.port_check.push(timed(|| port.ask(&empty)));
         times.port_update.push(timed(|| port.ask(&Which::Update)));
+        let first = timed(|| port.ask(&Which::FirstHalf));
+        let second = timed(|| port.ask(&Which::SecondHalf));
+        times.port_first_half.push(first);
+        times.port_gather.push(first + second);
         times.rust_clear.push(timed(|| rust.scene.clear()));
         times.rust_scatter.push(timed(|| rust.scene.scatter()));
         times.rust_update.push(timed(|| rust.scene.update()));
+        times.rust_gather.push(timed(|| rust.scene.gather()));
+        same_particles &= rust.scene.particles() == port.particles();
+        // Each repetition starts from where the particles were.
+        (port.call.particle_floats, port.call.particle_words) = (call.particle_floats.clone(), call.particle_words.clone());
+        rust.scene.put_back();
     }
     say("clear", &mut times.port_clear, &mut times.rust_clear);
     say("scatter", &mut times.port_scatter, &mut times.rust_scatter);
     say("update", &mut times.port_update, &mut times.rust_update);
+    say("gather, both halves", &mut times.port_gather, &mut times.rust_gather);
     println!("of the port's scatter, its check: {:.3} ms", 1e3 * median(&mut times.port_check).as_secs_f64());
+    println!("of the port's gather, its first half: {:.3} ms", 1e3 * median(&mut times.port_first_half).as_secs_f64());
     let (floats, words) = rust.scene.nodes();
-    let same = (&floats, &words) == (&port.call.node_floats, &port.call.node_words);
-    println!("nodes: {}", if same { "the same" } else { "DIFFERENT" });
-    same
+    let same_nodes = (&floats, &words) == (&port.call.node_floats, &port.call.node_words);
+    println!("nodes: {}", said(same_nodes));
+    println!("particles: {}", said(same_particles));
+    same_nodes && same_particles
+}
+
+fn said(same: bool) -> &'static str {
+    if same {
+        "the same"
+    } else {
+        "DIFFERENT"
+    }
 }
 
 #[derive(Default)]
@@ -49,9 +71,12 @@ struct Times {
     port_scatter: Vec<Duration>,
     port_check: Vec<Duration>,
     port_update: Vec<Duration>,
+    port_first_half: Vec<Duration>,
+    port_gather: Vec<Duration>,
     rust_clear: Vec<Duration>,
     rust_scatter: Vec<Duration>,
     rust_update: Vec<Duration>,
+    rust_gather: Vec<Duration>,
 }
 
 struct Port {
@@ -65,12 +90,12 @@ impl Port {
         expect_done(unsafe { mk_clear2(ids.len(), ids.as_ptr(), ids.len(), floats, node_floats.len(), words, node_words.len()) });
     }
 
-    /// The lists are borrowed for the call alone, and the nodes are taken out meanwhile.
     fn ask(&mut self, which: &Which) {
-        let mut node_floats = std::mem::take(&mut self.call.node_floats);
-        let mut node_words = std::mem::take(&mut self.call.node_words);
-        expect_done(archive::answer(which, &self.call, Lists::of(&self.call, &mut node_floats, &mut node_words)));
-        (self.call.node_floats, self.call.node_words) = (node_floats, node_words);
+        expect_done(archive::answer_in_place(which, &mut self.call));
+    }
+
+    fn particles(&self) -> Records {
+        (self.call.particle_floats.clone(), self.call.particle_words.clone())
     }
 }
 
@@ -105,7 +130,8 @@ fn say(what: &str, port: &mut [Duration], rust: &mut [Duration]) {
     println!("{}: port {:.3} ms, Rust {:.3} ms, ratio {:.2}", what, 1e3 * port.as_secs_f64(), 1e3 * rust.as_secs_f64(), ratio);
 }
 
-/// A block of regions, filled evenly but for its far edges, with everyday particles and points about every cell.
+/// A block of regions, filled evenly but for its far edges, with everyday particles, a fourth of them fluid, and points about every cell.
+/// Densities are given as what is not zero, as the Rust finds them by itself.
 fn full_call() -> Call {
     let mut ids: Vec<u64> =
         (0..COLUMNS * ROWS).map(|place| plane::region([4 * (place % COLUMNS), 4 * (place / COLUMNS)])).collect();
@@ -125,6 +151,12 @@ fn full_call() -> Call {
     }
     let mut call = bounded(call, COLLIDERS, &mut rng);
     (call.boundary.handling, call.boundary.locks) = (FRICTION, 0);
+    call.particle_words.iter_mut().skip(FLUID).step_by(4 * PARTICLE_WORDS).for_each(|is_fluid| *is_fluid = 1);
+    call.gather = Gather {
+        eigenerosion: 1,
+        given_floats: (0..PARTICLES).flat_map(|_| [4.0, rng.between(-1.0, 1.0)]).map(f32::to_bits).collect(),
+        given_words: (0..PARTICLES).map(|place| u32::from(place % 10 == 0)).collect(),
+    };
     call
 }
 
@@ -152,6 +184,11 @@ mod tests {
         port.ask(&Which::Update);
         let nodes = scattered.all_answered((&port.call.node_floats, &port.call.node_words));
         assert!(nodes.iter().filter(|node| *node != "=").count() > 4000);
+        let before = port.call.clone();
+        port.ask(&Which::FirstHalf);
+        port.ask(&Which::SecondHalf);
+        let (floats, words) = port.particles();
+        assert!(before.particles_answered((&floats, &words)).iter().all(|particle| particle != "="));
     }
 
     #[test]

@@ -1,5 +1,6 @@
-pub use crate::core::dynamics::solver::{BoundaryHandling, SimulationDofs};
+pub use crate::core::dynamics::solver::{BoundaryHandling, DamageModel, SimulationDofs};
 
+mod grid_to_particle;
 mod grid_update;
 mod particle_to_grid;
 

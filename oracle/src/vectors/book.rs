@@ -44,10 +44,15 @@ impl Book {
     }
 }
 
-/// Number and index and, where the call is done, its nodes.
-pub fn answer(refusal: Option<Refusal>, nodes: impl FnOnce() -> Vec<String>) -> Vec<String> {
+/// Number and index and, where the call is done, its nodes or particles.
+pub fn answer(refusal: Option<Refusal>, records: impl FnOnce() -> Vec<String>) -> Vec<String> {
     match refusal {
         Some(refusal) => vec![decimal(refusal.number), decimal(refusal.index as u64)],
-        None => [vec![decimal(0u32); 2], nodes()].concat(),
+        None => [vec![decimal(0u32); 2], records()].concat(),
     }
+}
+
+/// The change of an entry of 32 bits.
+pub fn entry(letter: char, place: usize, bits: u32) -> Edit {
+    Edit::Entry(letter, place, u64::from(bits))
 }

@@ -3,10 +3,39 @@
 use super::floats::patterns;
 use crate::rng::Rng;
 use samples::lines::Edit;
-use samples::{Call, PARTICLE_FLOATS, PARTICLE_WORDS, PROJECTION_FLOATS, REGION_FLOATS, REGION_NODES};
+use samples::{Call, GIVEN_FLOATS, PARTICLE_FLOATS, PARTICLE_WORDS, PROJECTION_FLOATS, REGION_FLOATS, REGION_NODES};
 
 /// What a scatter can be refused for.
 pub fn of_scatter(call: &Call) -> Vec<Vec<Edit>> {
+    of_particles_and_nodes(call, "htxy")
+}
+
+/// What the first half of a gather can be refused for.
+pub fn of_first_half(call: &Call) -> Vec<Vec<Edit>> {
+    [of_particles_and_nodes(call, "ht"), wrong_codes("e")].concat()
+}
+
+/// What the second half of a gather can be refused for.
+pub fn of_second_half(call: &Call) -> Vec<Vec<Edit>> {
+    let lists = [
+        ('f', call.particle_floats.len(), PARTICLE_FLOATS),
+        ('w', call.particle_words.len(), PARTICLE_WORDS),
+        ('g', call.gather.given_floats.len(), GIVEN_FLOATS),
+        ('v', call.gather.given_words.len(), 1),
+    ];
+    let mut found = wrong_lengths(&lists);
+    found.extend(wrong_counts(&[('p', call.particles)]));
+    let none = lists.map(|(letter, ..)| Edit::Length(letter, 0));
+    found.extend([61, 62, 63].map(|bit| [&[Edit::Count('p', 1 << bit)], &none[..]].concat()));
+    found.extend(wrong_words('w', call.particle_words.len()));
+    found.extend(wrong_words('v', call.gather.given_words.len()));
+    found.extend(wrong_floats(call));
+    found.extend(wrong_entries('g', 0..call.gather.given_floats.len()));
+    found
+}
+
+/// What a call can be refused for that is given these settings, regions, particles and nodes.
+fn of_particles_and_nodes(call: &Call, settings: &str) -> Vec<Vec<Edit>> {
     let lists = [
         ('i', call.ids.len(), 1),
         ('s', call.ranges.len(), 2),
@@ -19,7 +48,7 @@ pub fn of_scatter(call: &Call) -> Vec<Vec<Edit>> {
     found.extend(wrong_counts(&[('r', call.regions), ('p', call.particles)]));
     found.extend([62, 63].map(|bit| vec![Edit::Count('p', 1 << bit), Edit::Length('f', 0), Edit::Length('w', 0)]));
     found.push(over_512());
-    found.extend(wrong_settings("htxy"));
+    found.extend(wrong_settings(settings));
     found.extend(wrong_words('w', call.particle_words.len()));
     found.extend(wrong_floats(call));
     found.extend(wrong_ids(call));
@@ -46,7 +75,7 @@ pub fn of_update(call: &Call) -> Vec<Vec<Edit>> {
     found.push([over_512(), projections(513, colliders)].concat());
     found.push(over_16(call.ids.len()));
     found.extend(wrong_settings("ht"));
-    found.extend(wrong_codes());
+    found.extend(wrong_codes("bd"));
     found.extend(wrong_words('q', boundary.insides.len()));
     found.extend(wrong_entries('n', 0..colliders));
     found.extend(wrong_entries('j', 0..boundary.points.len()));
@@ -127,10 +156,10 @@ fn wrong_settings(letters: &str) -> Vec<Vec<Edit>> {
     found.into_iter().map(|(letter, bits)| vec![Edit::Setting(letter, bits)]).collect()
 }
 
-/// Codes and locks; those from 0 to 3 are no fault.
-fn wrong_codes() -> Vec<Vec<Edit>> {
+/// Codes, locks and flags; of the first two, 0 to 3 are no fault, of the last, 0 and 1.
+fn wrong_codes(letters: &str) -> Vec<Vec<Edit>> {
     let codes = [0, 1, 2, 3, 4, 5, 7, 8, 256, 1 << 16, 1 << 31, u32::MAX];
-    codes.into_iter().flat_map(|code| ['b', 'd'].map(|letter| vec![Edit::Setting(letter, code)])).collect()
+    codes.into_iter().flat_map(|code| letters.chars().map(move |letter| vec![Edit::Setting(letter, code)])).collect()
 }
 
 fn wrong_words(letter: char, count: usize) -> Vec<Vec<Edit>> {

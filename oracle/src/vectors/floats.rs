@@ -49,6 +49,30 @@ pub fn around_all(numbers: &[f32], reach: u32) -> Vec<u32> {
     numbers.iter().flat_map(|number| around(number.to_bits(), reach)).collect()
 }
 
+/// A number and those next to it, with its own sign.
+pub fn near(number: f32, reach: u32) -> Vec<f32> {
+    let bits = number.to_bits();
+    (0..=2 * reach).map(|step| f32::from_bits((bits + step).wrapping_sub(reach))).collect()
+}
+
+/// Patterns of every kind, NaNs of several among them, two by two.
+pub fn strange_pairs() -> impl Iterator<Item = [u32; 2]> {
+    const PARTS: [u32; 11] = [
+        0x0000_0000,
+        0x8000_0000,
+        0x3F80_0000,
+        0xBFC0_0000,
+        0x7F80_0000,
+        0xFF80_0000,
+        0x7FC0_0000,
+        0xFFC1_2345,
+        0x7F80_0001,
+        0xFFFF_FFFF,
+        0x7F7F_FFFF,
+    ];
+    PARTS.into_iter().flat_map(|x| PARTS.map(|y| [x, y]))
+}
+
 /// Every exponent with few, many and random digits and both signs (so both zeros, subnormals, the infinities and NaNs), more
 /// patterns of NaNs, and random patterns.
 pub fn everywhere(rng: &mut Rng) -> Vec<u32> {

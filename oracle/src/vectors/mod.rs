@@ -3,6 +3,7 @@
 mod book;
 mod faults;
 mod floats;
+mod gather;
 mod grid;
 mod numeric;
 mod packing;
@@ -26,6 +27,7 @@ pub const ALL: &[Vectors] = &[
     Vectors { questions: "host/vectors/grid.questions", answers: "host/vectors/grid.answers", make: grid::make },
     Vectors { questions: "host/vectors/scatter.questions", answers: "host/vectors/scatter.answers", make: scatter::make },
     Vectors { questions: "host/vectors/update.questions", answers: "host/vectors/update.answers", make: update::make },
+    Vectors { questions: "host/vectors/gather.questions", answers: "host/vectors/gather.answers", make: gather::make },
 ];
 
 impl Vectors {
@@ -106,8 +108,9 @@ pub fn decimal(number: impl Into<u64>) -> String {
 #[cfg(test)]
 mod format {
     use super::{word, Sheet};
-    use samples::WRITTEN_NAN;
-    use std::collections::BTreeMap;
+    use samples::lines::Edit;
+    use samples::{Call, WRITTEN_NAN};
+    use std::collections::{BTreeMap, BTreeSet};
 
     pub fn fields(line: &str) -> Vec<&str> {
         line.split('\t').collect()
@@ -117,6 +120,36 @@ mod format {
     pub fn rows(sheet: &Sheet) -> impl Iterator<Item = (Vec<&str>, Vec<&str>)> {
         let lines = sheet.questions.lines().zip(sheet.answers.lines());
         lines.filter(|(question, _)| !question.starts_with('#')).map(|(question, answer)| (fields(question), fields(answer)))
+    }
+
+    /// A question about a call: which it is, the call with its changes, and the answer.
+    pub type Question = (String, Call, Vec<String>);
+
+    /// The questions of these letters about the calls of a sheet, whose fields `read` reads.
+    pub fn questions(sheet: &Sheet, read: fn(&[&str]) -> Call, letters: &str) -> Vec<Question> {
+        let (mut calls, mut found) = (vec![], vec![]);
+        for (question, answer) in rows(sheet) {
+            if question[0] == "b" {
+                calls.push(read(&question[2..]));
+            } else if letters.contains(question[0]) {
+                let edits: Vec<Edit> = question[2..].iter().map(|edit| edit.parse().unwrap()).collect();
+                let call: &Call = &calls[question[1].parse::<usize>().unwrap()];
+                let answer = answer.iter().map(|field| field.to_string()).collect();
+                found.push((question[0].to_string(), call.edited(&edits), answer));
+            }
+        }
+        found
+    }
+
+    /// The indices that calls of these letters answer with each number, and how often.
+    pub fn answered(sheet: &Sheet, letters: &str) -> BTreeMap<(String, u32), (usize, BTreeSet<u64>)> {
+        let mut found: BTreeMap<(String, u32), (usize, BTreeSet<u64>)> = BTreeMap::new();
+        for (question, answer) in rows(sheet).filter(|(question, _)| letters.contains(question[0])) {
+            let entry = found.entry((question[0].to_string(), answer[0].parse().unwrap())).or_default();
+            entry.0 += 1;
+            entry.1.insert(answer[1].parse().unwrap());
+        }
+        found
     }
 
     /// How often each operation is asked. `kinds` has, for a question, a letter for each field behind its first and for each of

@@ -8,6 +8,7 @@ use super::{decimal, Sheet, OF_BOTH};
 use crate::reading::{self, Which};
 use crate::rng::Rng;
 use samples::lines::Edit;
+use samples::particle::{CRACK_FACTOR, FAILED, MASS, PHASE, PSI, VOLUME};
 use samples::random::{Numbers, Old, Style, LAST_CELL, WIDTHS};
 use samples::{Call, PARTICLE_FLOATS, PARTICLE_WORDS};
 use sparkl2d::scene::Scene;
@@ -100,14 +101,6 @@ fn nodes(which: &Which, call: &Call) -> Vec<String> {
 
 // Calls that are done.
 
-/// A particle's fields by their places in its record.
-const MASS: usize = 12;
-const VOLUME: usize = 13;
-const PHASE: usize = 14;
-const CRACK: usize = 15;
-const PSI: usize = 16;
-const FAILED: usize = 0;
-
 /// Document 01's listing: one particle of mass 64 at (1, 1) with the velocity (1, 0).
 fn listing() -> Call {
     let mut call = Call::on(vec![0]);
@@ -122,10 +115,10 @@ fn listing() -> Call {
 }
 
 /// What is asked of each field by itself: zeros, the least and the largest.
-const ENDS: [f32; 8] = [0.0, -0.0, 1e-45, -1e-45, f32::MIN_POSITIVE, 1e-20, f32::MAX, f32::MIN];
+pub const ENDS: [f32; 8] = [0.0, -0.0, 1e-45, -1e-45, f32::MIN_POSITIVE, 1e-20, f32::MAX, f32::MIN];
 
 /// Phases and crack factors about the point where the rule changes.
-const SIGNS: [f32; 6] = [1.0, 0.0, -0.0, -1.0, 1e-45, -1e-45];
+pub const SIGNS: [f32; 6] = [1.0, 0.0, -0.0, -1.0, 1e-45, -1e-45];
 
 impl Book {
     fn accepted(&mut self) {
@@ -148,7 +141,7 @@ impl Book {
     /// A particle that has everything, in a cell whose stencil reaches four regions.
     fn full_particle(&mut self) -> usize {
         let mut call = Style::plain(0.5, [3, 2], [1, 1], 1).sample(&mut self.rng);
-        for (place, float) in [(PHASE, 0.5f32), (CRACK, 2.0), (PSI, 0.75)] {
+        for (place, float) in [(PHASE, 0.5f32), (CRACK_FACTOR, 2.0), (PSI, 0.75)] {
             call.particle_floats[place] = float.to_bits();
         }
         call.particle_words[FAILED] = 0;
@@ -178,7 +171,11 @@ impl Book {
         for (phase, crack) in SIGNS.iter().flat_map(|phase| SIGNS.map(|crack| (*phase, crack))) {
             for failed in [0, 1] {
                 let float = |place: usize, float: f32| Edit::Entry('f', place, u64::from(float.to_bits()));
-                self.ask(number, &Which::All, &[float(PHASE, phase), float(CRACK, crack), Edit::Entry('w', FAILED, failed)]);
+                self.ask(
+                    number,
+                    &Which::All,
+                    &[float(PHASE, phase), float(CRACK_FACTOR, crack), Edit::Entry('w', FAILED, failed)],
+                );
             }
         }
     }
@@ -214,7 +211,7 @@ impl Book {
 }
 
 /// The listing's particle in the first of as many regions as there may be.
-fn limit() -> Call {
+pub fn limit() -> Call {
     let Call { particles, particle_floats, particle_words, .. } = listing();
     let ranges = [vec![0, 1], [1, 0].repeat(511)].concat();
     Call { ranges, particles, particle_floats, particle_words, ..Call::on(first_regions(512)) }
@@ -363,23 +360,11 @@ fn bad_orders(order: &[u64], regions: u64) -> Vec<Vec<u64>> {
 mod tests {
     use super::*;
     use crate::rng::SEED;
-    use crate::vectors::format::rows;
-    use std::collections::{BTreeMap, BTreeSet};
-
-    /// The indices that are answered to each call with each number, and how often.
-    fn answered(sheet: &Sheet) -> BTreeMap<(String, u32), (usize, BTreeSet<u64>)> {
-        let mut found: BTreeMap<(String, u32), (usize, BTreeSet<u64>)> = BTreeMap::new();
-        for (question, answer) in rows(sheet).filter(|(question, _)| question[0] != "b") {
-            let entry = found.entry((question[0].to_string(), answer[0].parse().unwrap())).or_default();
-            entry.0 += 1;
-            entry.1.insert(answer[1].parse().unwrap());
-        }
-        found
-    }
+    use crate::vectors::format::{answered, rows};
 
     #[test]
     fn every_call_answers_every_number_often() {
-        let found = answered(&make());
+        let found = answered(&make(), "foq");
         for operation in ["f", "o", "q"] {
             let numbers = found.keys().filter(|(asked, _)| asked == operation).map(|(_, number)| *number);
             assert!(numbers.eq(0..=10), "{}", operation);

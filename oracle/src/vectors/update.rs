@@ -1,9 +1,9 @@
 //! Questions to the update, and to clear, scatter and update in one call. What a call is refused for is `reading`'s answer; the nodes
 //! of one that is not are the handed-over Rust's. Its clear is the loop of `ParticleSet::sort`, and its sequence is the three in turn.
 
-use super::book::{answer, Book};
+use super::book::{answer, entry, Book};
 use super::faults::{self, over_16, over_512, projections};
-use super::floats::around;
+use super::floats::{around, near, strange_pairs};
 use super::{scatter, Sheet, OF_BOTH};
 use crate::reading;
 use crate::rng::Rng;
@@ -130,16 +130,6 @@ impl Aim {
         let turned = |[x, y]: [f32; 2]| [y, x];
         Aim { point: turned(self.point), velocity: turned(self.velocity), ..self }
     }
-}
-
-fn entry(letter: char, place: usize, bits: u32) -> Edit {
-    Edit::Entry(letter, place, u64::from(bits))
-}
-
-/// A number and those next to it, with its own sign.
-fn near(number: f32, reach: u32) -> Vec<f32> {
-    let bits = number.to_bits();
-    (0..=2 * reach).map(|step| f32::from_bits((bits + step).wrapping_sub(reach))).collect()
 }
 
 /// The numbers `steps` patterns above this one or below.
@@ -441,24 +431,10 @@ fn beyond_the_range() -> Vec<Aim> {
     found
 }
 
-/// Velocities of every kind, NaNs of several patterns among them, with each code, inside and outside, near and far.
+/// Velocities of every kind, with each code, inside and outside, near and far.
 fn strange_velocities() -> Vec<Aim> {
-    const PARTS: [u32; 11] = [
-        0x0000_0000,
-        0x8000_0000,
-        0x3F80_0000,
-        0xBFC0_0000,
-        0x7F80_0000,
-        0xFF80_0000,
-        0x7FC0_0000,
-        0xFFC1_2345,
-        0x7F80_0001,
-        0xFFFF_FFFF,
-        0x7F7F_FFFF,
-    ];
-    let pairs = PARTS.iter().flat_map(|x| PARTS.map(|y| [*x, y].map(f32::from_bits)));
     let mut found = vec![];
-    for (place, velocity) in pairs.enumerate() {
+    for (place, velocity) in strange_pairs().map(|pair| pair.map(f32::from_bits)).enumerate() {
         for (handling, inside) in
             [(STICK, true), (STICK, false), (NONE, true), (FRICTION, true), (FRICTION, false), (FRICTION_Z_UP, false)]
         {
@@ -573,27 +549,11 @@ impl Book {
 mod tests {
     use super::*;
     use crate::rng::SEED;
-    use crate::vectors::format::rows;
+    use crate::vectors::format::{self, answered, rows, Question};
     use samples::{plane, Boundary};
-    use std::collections::{BTreeMap, BTreeSet};
 
-    /// The questions: what is asked, the call with its changes, and the answer.
-    fn questions(sheet: &Sheet) -> Vec<(String, Call, Vec<String>)> {
-        let (mut calls, mut found) = (vec![], vec![]);
-        for (question, answer) in rows(sheet) {
-            if question[0] == "b" {
-                calls.push(Call::from_bounded_fields(&question[2..]));
-            } else {
-                let edits: Vec<Edit> = question[2..].iter().map(|edit| edit.parse().unwrap()).collect();
-                let call: &Call = &calls[question[1].parse::<usize>().unwrap()];
-                found.push((
-                    question[0].to_string(),
-                    call.edited(&edits),
-                    answer.iter().map(|field| field.to_string()).collect(),
-                ));
-            }
-        }
-        found
+    fn questions(sheet: &Sheet) -> Vec<Question> {
+        format::questions(sheet, Call::from_bounded_fields, "ua")
     }
 
     #[test]
@@ -612,12 +572,7 @@ mod tests {
 
     #[test]
     fn both_calls_answer_every_number_often() {
-        let mut found: BTreeMap<(String, u32), (usize, BTreeSet<u64>)> = BTreeMap::new();
-        for (operation, _, answer) in questions(&make()) {
-            let entry = found.entry((operation, answer[0].parse().unwrap())).or_default();
-            entry.0 += 1;
-            entry.1.insert(answer[1].parse().unwrap());
-        }
+        let found = answered(&make(), "ua");
         for (operation, last) in [("u", 6), ("a", 10)] {
             let numbers = found.keys().filter(|(asked, _)| asked == operation).map(|(_, number)| *number);
             assert!(numbers.eq(0..=last), "{}", operation);
