@@ -1,4 +1,3 @@
 pub mod Checking
-pub mod Flags
 pub mod Gathering
 pub mod Taking

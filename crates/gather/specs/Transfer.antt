@@ -63,11 +63,11 @@ pub record Body : Type 0 where
 
 -- what it has afterwards
 pub record Moved : Type 0 where
-  pub position : List Float
-  pub velocity : List Float
   pub gradient : List (List Float)
-  pub deformation : List (List Float)
   pub phase : Float
+  pub velocity : List Float
+  pub position : List Float
+  pub deformation : List (List Float)
 
 -- With modified eigenerosion, nonzero crack factor and phase > 0: phase 0 if (factor·h)·p > threshold.
 abbrev pub eroded : Bool → Float → Float → Body → Float
@@ -86,16 +86,16 @@ fluidDeformed dt d ((f ∷ fs) ∷ rows) = (f ⊕ (d ⊗ dt) ⊗ f ∷ fs) ∷ r
 abbrev pub deformed : Float → Taken → Body → List (List Float)
 deformed dt a q = cond (q .fluid) (fluidDeformed dt (a .divergence) (q .deformation)) (solidDeformed dt (a .gradient) (q .deformation))
 
--- A kinematic velocity replaces v. x += v·dt.
+-- G as taken; the phase by eigenerosion; a kinematic velocity replaces v; x += v·dt; then F
 unfoldable pub moved : Bool → Float → Float → Taken → Body → Moved
 moved modified h dt a q =
     let velocity = cond (q .kinematic) (q .kinematicVelocity) (a .velocity) in
     record {
-      position = pairwise (λ (x v : Float). x ⊕ v ⊗ dt) (q .position) velocity;
-      velocity = velocity;
       gradient = a .gradient;
-      deformation = deformed dt a q;
       phase = eroded modified h (a .psi) q;
+      velocity = velocity;
+      position = pairwise (λ (x v : Float). x ⊕ v ⊗ dt) (q .position) velocity;
+      deformation = deformed dt a q;
     }
 
 -- ---- the second half, on any number of axes
@@ -122,12 +122,12 @@ pub record State : Type 0 where
 pub record Settled : Type 0 where
   pub velocity : List Float
   pub gradient : List (List Float)
+  pub failed : Bool
   pub deformation : List (List Float)
-  pub phase : Float
   pub psi : Float
   pub parameter1 : Float
   pub parameter2 : Float
-  pub failed : Bool
+  pub phase : Float
 
 abbrev pub tenThousand : Float
 tenThousand = ofBits binary32 0x461c4000
@@ -144,12 +144,12 @@ settled given q =
     record {
       velocity = cond (q .static) (zeros (q .velocity)) (q .velocity);
       gradient = cond (q .static || failed) (zeroRows (q .gradient)) (q .gradient);
+      failed = failed;
       deformation = cond failed (identity (q .deformation)) (q .deformation);
-      phase = cond (given .failed) none (q .phase);
       psi = psi;
       parameter1 = psi ⊗ q .mass;
       parameter2 = q .mass;
-      failed = failed;
+      phase = cond (given .failed) none (q .phase);
     }
 
 -- ---- in the plane

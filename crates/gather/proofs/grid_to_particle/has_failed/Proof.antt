@@ -1,8 +1,8 @@
 -- `gather::grid_to_particle::has_failed` meets its contract.
 -- Assumes nothing.
 use borrow.Author.Needs.{needs}
+use Rattle.grid.proofs.Answers.{not-not}
 use Rattle.gather.specs.Transfer.{fails}
-use Rattle.gather.proofs.Flags.{not-not}
 use Rattle.gather.proofs.grid_to_particle.has_failed.Statement.{statement}
 use Rattle.gather.proofs.grid_to_particle.has_failed.Tie as tie
 

@@ -1,18 +1,15 @@
 -- `scatter::particle_to_grid::psi_mass_of` meets its contract: in each branch.
 -- Assumes nothing.
 use mathlib.Core.Bool.{Bool, true, false, cond, _&&_, not}
-use mathlib.Core.Path.{_≡_, refl, sym, ap, _∙_}
+use mathlib.Core.Path.{_≡_, sym, ap, _∙_}
 use lib.Dec.{eqb}
 use lib.Ieee.{lt, ne}
 use Rattle.numeric.specs.Bits.{none}
+use Rattle.grid.proofs.Answers.{not-not}
 use Rattle.particles.specs.declared.particle.Particle.{Particle}
 use Rattle.scatter.specs.Hit.{psiMassOf, bodyOf}
 use Rattle.scatter.proofs.particle_to_grid.psi_mass_of.Statement.{statement}
 use Rattle.scatter.proofs.particle_to_grid.psi_mass_of.Tie as tie
-
-not-not : (b : Bool) → not (not b) ≡ b
-not-not true = refl
-not-not false = refl
 
 -- by whether the code's test holds; "not failed" is that the flag is 0
 by-test : (q : Particle) (b : Bool) → (lt none (q .phase) && (ne (q .«crack_propagation_factor») none && eqb (q .failed) 0)) ≡ b → cond b (q .mass) none ≡ psiMassOf (bodyOf q)
