@@ -12,11 +12,11 @@ use Rattle.laws.proofs.Hits as Hits
 use Rattle.grid.specs.Nodes.{nodeForm, nodeAt, putNode, nodes, emptyNode, regionCells}
 use Rattle.grid.specs.Clear.{emptied, cleared, Laws}
 use Rattle.grid.specs.declared.grid_node.GridNode.{GridNode}
+use Rattle.grid.proofs.Changing.{one-hit}
 
 -- a node that is written empty is emptied
 pub one : (k : ℕ) (s : Store) → putNode s k emptyNode ≡ run nodes (emptied k) s
-unfolding putNode nodes records
-one k s = sym (Hits.run-one nodes (record { at = k; change = λ n. emptyNode }) s)
+one k s = one-hit k (λ n. emptyNode) s
 
 -- the j nodes from b on
 abbrev from : ℕ → ℕ → List (Hit GridNode)

@@ -1,6 +1,4 @@
 // A node of the grid.
-ghost use mathlib.Core.Path.{_≡_};
-ghost use Rattle.grid.specs.Nodes.{emptyNode};
 use numeric::dim2::Vector;
 
 // The floats and the words of a node in lent memory, and the nodes of a region, 4 along each axis.
@@ -17,18 +15,4 @@ pub struct GridNode {
     pub psi_momentum: f32,
     pub psi_mass: f32,
     pub boundary: u32,
-}
-
-// A node that nothing has reached.
-pub(crate) fn empty() -> GridNode
-    ensures { λ r. ⌜ r ≡ emptyNode ⌝ }
-{
-    GridNode {
-        mass: 0.0,
-        momentum: Vector { x: 0.0, y: 0.0 },
-        velocity: Vector { x: 0.0, y: 0.0 },
-        psi_momentum: 0.0,
-        psi_mass: 0.0,
-        boundary: 0,
-    }
 }

@@ -7,7 +7,7 @@ ghost use lib.Dec.{eqb};
 ghost use lib.ListN.{length};
 ghost use Rattle.laws.specs.Store.{store};
 ghost use Rattle.grid.specs.Answers.{unless};
-ghost use Rattle.grid.specs.Nodes.{nodeFloats, nodeWords, nodeAt, putNode};
+ghost use Rattle.grid.specs.Nodes.{nodeFloats, nodeWords, nodeAt, putNode, emptyNode};
 ghost use Rattle.grid.specs.Table.{all, matches, nodeLengths, limits, finite, goodWidth, goodStep, called, flags, numbers, badRegion, regionIds, rangeWords, cover};
 use crate::Answer;
 use crate::Rule;
@@ -25,6 +25,20 @@ pub const MAX_COLLIDERS: usize = 16;
 
 // A region's start and count.
 pub const RANGE_WORDS: usize = 2;
+
+// A node that nothing has reached.
+pub fn empty() -> GridNode
+    ensures { λ r. ⌜ r ≡ emptyNode ⌝ }
+{
+    GridNode {
+        mass: 0.0,
+        momentum: Vector { x: 0.0, y: 0.0 },
+        velocity: Vector { x: 0.0, y: 0.0 },
+        psi_momentum: 0.0,
+        psi_mass: 0.0,
+        boundary: 0,
+    }
+}
 
 // The node at place k.
 pub fn read_node(nf: &[f32], nw: &[u32], k: usize) -> GridNode

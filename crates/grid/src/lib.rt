@@ -96,7 +96,7 @@ fn clear_region(first: usize, nf: &mut [f32], nw: &mut [u32])
 {
     let mut c = 0;
     while c < CELLS_OF_REGION {
-        inner::write_node(nf, nw, first + c, grid_node::empty());
+        inner::write_node(nf, nw, first + c, inner::empty());
         c += 1;
     }
 }

@@ -8,23 +8,39 @@ use native.Mathlib.Nat.{eq-or-lt-of-le}
 use native.Mathlib.Numerals.{add-one}
 use native.Mathlib.Omega.{arith}
 use lib.Dec.{eqb}
-use borrow.Author.Tests.{eqb-true, eqb-false}
+use borrow.Author.Tests.{eqb-true, eqb-false, eq-eqb}
 use Rattle.laws.specs.Store.{Cells}
-use Rattle.laws.specs.Hits.{Hit, In, Within, keep, only, along, hit, run, gather, Laws}
+use Rattle.laws.specs.Hits.{Hit, All, In, Within, keep, only, along, hit, run, gather, changeAt, changes, Laws}
 
 -- a place other than k
 abbrev pub Elsewhere : ℕ → ℕ → Type 0
 Elsewhere k j = j ≡ k → ⊥
 
 module _ {A : Type 0} where
+  all-append : (Q : Hit A → Type 0) (xs ys : List (Hit A)) → All Q xs → All Q ys → All Q (xs ++ ys)
+  all-append Q [] ys p q = q
+  all-append Q (x ∷ xs) ys p q = (p .0, all-append Q xs ys (p .1) q)
+
+  pub all-gather : (Q : Hit A → Type 0) (f : ℕ → List (Hit A)) (n : ℕ) → ((i : ℕ) → i < n → All Q (f i)) → All Q (gather f n)
+  unfolding gather
+  all-gather Q f zero h = tt
+  all-gather Q f (suc n) h = all-append Q (gather f n) (f n) (all-gather Q f n (λ i l. h i (omega arith))) (h n (omega arith))
+
   pub in-append : (P : ℕ → Type 0) (xs ys : List (Hit A)) → In P xs → In P ys → In P (xs ++ ys)
-  in-append P [] ys p q = q
-  in-append P (x ∷ xs) ys p q = (p .0, in-append P xs ys (p .1) q)
+  in-append P xs ys p q = all-append (λ (h : Hit A). P (h .at)) xs ys p q
 
   pub in-gather : (P : ℕ → Type 0) (f : ℕ → List (Hit A)) (n : ℕ) → ((i : ℕ) → i < n → In P (f i)) → In P (gather f n)
-  unfolding gather
-  in-gather P f zero h = tt
-  in-gather P f (suc n) h = in-append P (gather f n) (f n) (in-gather P f n (λ i l. h i (omega arith))) (h n (omega arith))
+  in-gather P f n h = all-gather (λ (h : Hit A). P (h .at)) f n h
+
+  -- what every change keeps, those at k keep, one after the other
+  along-keeps : {B : Type 0} (f : A → B) (hs : List (Hit A)) (k : ℕ) (a : A) → All (λ (h : Hit A). (b : A) → f (h .change b) ≡ f b) hs → f (along (only k hs) a) ≡ f a
+  unfolding only along
+  along-keeps f [] k a p = refl
+  along-keeps {B} f (h ∷ hs) k a p = go (eqb (h .at) k) (λ b. along-keeps f hs k b (p .1))
+    where
+      go : (b : Bool) → ((c : A) → f (along (only k hs) c) ≡ f c) → f (along (keep b (h .change) (only k hs)) a) ≡ f a
+      go true later = later (h .change a) ∙ p .0 a
+      go false later = later a
 
   keep-append : (b : Bool) (f : A → A) (xs ys : List (A → A)) → keep b f (xs ++ ys) ≡ keep b f xs ++ ys
   keep-append true f xs ys = refl
@@ -108,14 +124,41 @@ module _ {S A : Type 0} (C : Cells S A) where
       swapped k (inr u) (inl e) = rw e (append-nil (only k xs))
       swapped k (inr u) (inr v) = absurd (d k u v)
 
-  pub laws : Laws C
+  stays : (hs : List (Hit A)) (s : S) (n k : ℕ) → C .Ok s n → Within n hs → only k hs ≡ [] → C .get (run C hs s) k ≡ C .get s k
   unfolding along
+  stays hs s n k o w e = run-get hs s n k o w ∙ rw e
+
+  -- ---- each of n cells changed by its place
+
+  module _ (change : ℕ → A → A) where
+    pub changes-within : (n i : ℕ) → i ≤ n → Within n (gather (changeAt change) i)
+    changes-within n i l = in-gather (λ k. k < n) (changeAt change) i (λ j u. (omega arith, tt))
+
+    -- the changes below i do not reach i
+    pub changes-before : (s : S) (n i : ℕ) → C .Ok s n → i < n → C .get (run C (gather (changeAt change) i) s) i ≡ C .get s i
+    changes-before s n i o l =
+        stays (gather (changeAt change) i) s n i o (changes-within n i (omega arith))
+        (only-none i (gather (changeAt change) i) (in-gather (Elsewhere i) (changeAt change) i (λ j u. (λ e. omega arith, tt))))
+
+    its-own : (k : ℕ) → only k (changeAt change k) ≡ change k ∷ []
+    unfolding only
+    its-own k = rw (eq-eqb k k refl)
+
+    once : (s : S) (n k : ℕ) → C .Ok s n → k < n → C .get (run C (changes change n) s) k ≡ change k (C .get s k)
+    unfolding changes along
+    once s n k o l =
+        run-get (gather (changeAt change) n) s n k o (changes-within n n (omega arith))
+        ∙ rw (only-one k (changeAt change) n k l (λ i u ne. (ne, tt)) ∙ its-own k)
+
+  pub laws : Laws C
   laws = record {
     each = run-get;
-    stays = λ hs s n k o w e. run-get hs s n k o w ∙ rw e;
+    stays = stays;
+    keeps = λ f hs s n k o w p. ap f (run-get hs s n k o w) ∙ along-keeps f hs k (C .get s k) p;
     ok = run-ok;
     same = run-same;
     apart = run-apart;
+    once = once;
   }
 
   -- ---- a loop over hits: nothing yet, one more, one without a hit

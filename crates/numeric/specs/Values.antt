@@ -2,7 +2,7 @@
 use mathlib.Core.Bool.{true, false}
 use mathlib.Core.List.{[], _∷_, map}
 use mathlib.Core.Path.{_≡_, refl}
-use Prim.Native.Nat.{ℕ, _^_}
+use Prim.Native.Nat.{ℕ}
 use lib.IntN.{pos, negsuc}
 use lib.Ieee.{Float, nan, inf, fin, binary32, round, neg, ofBits, toBits, ofInt, toUnsigned, add, mul, sub, div, lt, eq, isNan}
 use Rattle.numeric.specs.Bits.{none, half, threeQuarters, one, threeHalves, two, four}

@@ -10,7 +10,7 @@ use Rattle.laws.specs.Store.{store}
 use Rattle.grid.specs.Nodes.{regionCells}
 use Rattle.update.specs.Update.{updatedNode}
 use Rattle.update.proofs.Checking.{projections-there}
-use Rattle.update.proofs.Hitting.{one-hit}
+use Rattle.grid.proofs.Changing.{one-hit}
 use Rattle.update.proofs.grid_update.update_cell.Statement.{statement}
 use Rattle.update.proofs.grid_update.update_cell.Tie as tie
 

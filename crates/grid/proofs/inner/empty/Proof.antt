@@ -1,8 +1,8 @@
--- `grid::grid_node::empty` meets its contract.
+-- `grid::inner::empty` meets its contract.
 -- Assumes nothing.
 use mathlib.Core.Path.{refl}
-use Rattle.grid.proofs.grid_node.empty.Statement.{statement}
-use Rattle.grid.proofs.grid_node.empty.Tie as tie
+use Rattle.grid.proofs.inner.empty.Statement.{statement}
+use Rattle.grid.proofs.inner.empty.Tie as tie
 
 returns : tie.Need-returns
 returns c = refl
