@@ -1,3 +1,4 @@
 pub mod Every
 pub mod Accepting
 pub mod Staging
+pub mod Placing

@@ -1,3 +1,4 @@
 pub mod Particles
 pub mod Table
+pub mod Places
 pub mod Values

@@ -1,16 +1,20 @@
-// What the stages share: reading and writing particles, and judging them. No host reaches these; some demand of their caller what its own check has shown.
+// What the stages share: the place of a cell's node, reading and writing particles, and judging them. No host reaches these; some demand of their caller what its own check has shown.
 pub mod checks;
 
 ghost use mathlib.Core.Path.{_≡_};
 ghost use mathlib.Core.List.{[], _∷_};
-ghost use Prim.Native.Nat.{_+_, _*_, _≤_};
+ghost use Prim.Native.Nat.{_+_, _*_, _^_, _≤_, _<_};
 ghost use lib.ListN.{length};
 ghost use lib.Ieee.{nan};
 ghost use Rattle.laws.specs.Store.{store, read, write};
+ghost use Rattle.grid.specs.Nodes.{regionCells};
+ghost use Rattle.particles.specs.Places.{nodePlace};
 ghost use Rattle.particles.specs.Particles.{particleFloats, particleWords, particleAt, putParticle};
 use crate::particle::PARTICLE_FLOATS;
 use crate::particle::PARTICLE_WORDS;
 use crate::particle::Particle;
+use cells::Found;
+use grid::grid_node::CELLS_OF_REGION;
 use numeric::dim2::Matrix;
 use numeric::dim2::Point;
 use numeric::dim2::Vector;
@@ -35,6 +39,18 @@ struct Flags {
     kinematic: u32,
     fluid: u32,
     is_static: u32,
+}
+
+// The place of a cell's node in lent memory, or that its region is not listed.
+pub fn node_place(ids: &[u64], cell_id: u64) -> Found
+    requires { ⌜ length (now ids) * regionCells < 2 ^ 64 ⌝ }
+    ensures { λ r. ⌜ r ≡ nodePlace (now (ids .entry)) «cell_id» ⌝ }
+{
+    let Found::At(place) = cells::lookup(ids, packing::region_of(cell_id)) else {
+        return Found::Absent;
+    };
+    let k = place * CELLS_OF_REGION + packing::dim2::number_in_region(cell_id) as usize;
+    Found::At(k)
 }
 
 // The particle at place p.
