@@ -1,53 +1,57 @@
 -- One hit, as the code makes it: the node is read, changed and written back. Assumes nothing.
-use mathlib.Core.Path.{_≡_, refl, sym, ap, _∙_}
+use mathlib.Core.Path.{_≡_, ap}
 use mathlib.Core.Bool.{true, false}
 use mathlib.Core.List.{List}
-use Prim.Native.Nat.{ℕ, _+_, _*_}
+use Prim.Native.Nat.{ℕ}
 use lib.Ieee.{Float}
 use lib.ListN.{getD}
-use Rattle.packing.specs.Ids.{dim2, region, number, inColour, stencilOf}
+use Rattle.packing.specs.Ids.{dim2, inColour, stencilOf}
 use Rattle.laws.specs.Store.{Store}
 use Rattle.laws.specs.Hits.{Hit, run}
-use Rattle.laws.proofs.Hits.{run-one}
 use Rattle.cells.specs.Cells.{cellAssociatedToPoint}
-use Rattle.cells.specs.Lookup.{lookup}
-use Rattle.cells.specs.Stencil.{shiftAt}
-use Rattle.cells.specs.declared.Found.the-variants.{At}
-use Rattle.grid.specs.Nodes.{nodeAt, putNode, nodes, regionCells, reads, writes}
+use Rattle.cells.specs.Stencil.{shiftAt, dirToAssociatedGridNode}
+use Rattle.cells.specs.declared.Found.{Found}
+use Rattle.cells.specs.declared.Found.the-variants.{At, Absent}
+use Rattle.grid.specs.Nodes.{nodeAt, putNode, nodes}
 use Rattle.grid.specs.declared.grid_node.GridNode.{GridNode}
+use Rattle.grid.proofs.Changing.{one-hit}
 use Rattle.particles.specs.Particles.{positionOf}
+use Rattle.particles.specs.Places.{nodePlace}
 use Rattle.particles.specs.declared.particle.Particle.{Particle}
-use Rattle.scatter.specs.Hit.{Brought, brought, bodyOf, hitNode, changed}
+use Rattle.scatter.specs.Hit.{changedFor, changedBy}
 use Rattle.scatter.specs.Scatter.{onNode, shiftHits, regionHits, colouredHits}
+use Rattle.scatter.specs.declared.particle_to_grid.Load.{Load}
+use Rattle.scatter.specs.declared.particle_to_grid.Pass.{Pass}
 
-pub one-hit : (ids : List ℕ) (cell r : ℕ) (change : GridNode → GridNode) (s : Store) → lookup ids (region cell) ≡ At r
-    → putNode s (r * regionCells + number dim2 cell) (change (nodeAt s (r * regionCells + number dim2 cell))) ≡ run nodes (onNode (lookup ids (region cell)) cell change) s
-one-hit ids cell r change s e =
-    let k = r * regionCells + number dim2 cell in
-    rw e
-    (sym
-    (run-one nodes (record { at = k; change = change }) s
-    ∙ writes s k (change (nodes .get s k))
-    ∙ ap (λ (n : GridNode). putNode s k (change n)) (reads s k)))
+-- at the place found, and nowhere where none is found
+pub there : (f : Found) (k : ℕ) (change : GridNode → GridNode) (s : Store) → f ≡ At k → putNode s k (change (nodeAt s k)) ≡ run nodes (onNode f change) s
+there f k change s e = rw e (one-hit k change s)
 
--- ---- of the stencil's cells, by what the particle brings
+pub nowhere : (f : Found) (change : GridNode → GridNode) (s : Store) → f ≡ Absent → s ≡ run nodes (onNode f change) s
+unfolding run
+nowhere f change s e = rw e
 
-unfoldable pub cellHits : Float → Float → List Float → List ℕ → List ℕ → Brought → ℕ → List (Hit GridNode)
-cellHits h dt gravity ids stencil b k = onNode (lookup ids (region (getD stencil k 0))) (getD stencil k 0) (hitNode h dt gravity b (shiftAt dim2 k))
+-- ---- of the stencil's cells, by the load
 
-pub these-hits : (h dt : Float) (gravity : List Float) (ids : List ℕ) (q : Particle)
-    → cellHits h dt gravity ids (stencilOf dim2 (cellAssociatedToPoint dim2 h (positionOf q))) (brought h dt (bodyOf q)) ≡ shiftHits h dt gravity ids q
-unfolding cellHits shiftHits changed
-these-hits h dt gravity ids q = refl
+unfoldable pub cellHits : Float → List ℕ → List ℕ → List Float → Load → ℕ → List (Hit GridNode)
+cellHits h ids stencil dir load k = onNode (nodePlace ids (getD stencil k 0)) (changedBy h dir load (shiftAt dim2 k))
+
+pub these-hits : (h : Float) (pass : Pass) (ids : List ℕ) (q : Particle) (load : Load) → changedBy h (dirToAssociatedGridNode h (positionOf q)) load ≡ changedFor h pass q
+    → cellHits h ids (stencilOf dim2 (cellAssociatedToPoint dim2 h (positionOf q))) (dirToAssociatedGridNode h (positionOf q)) load ≡ shiftHits h (changedFor h pass) ids q
+unfolding cellHits shiftHits
+these-hits h pass ids q load e =
+    let hits : (List ℕ → GridNode → GridNode) → ℕ → List (Hit GridNode)
+    = λ change k. onNode (nodePlace ids (getD (stencilOf dim2 (cellAssociatedToPoint dim2 h (positionOf q))) k 0)) (change (shiftAt dim2 k)) in
+    ap hits e
 
 -- ---- a region of another colour has no hits, one of this colour its own
 
-pub skipped : (h dt : Float) (gravity : List Float) (ids ranges : List ℕ) (particles : Store) (c r : ℕ) (s : Store) → inColour dim2 (getD ids r 0) c ≡ false
-    → s ≡ run nodes (colouredHits h dt gravity ids ranges particles c r) s
+pub skipped : (h : Float) (change : Particle → List ℕ → GridNode → GridNode) (ids ranges : List ℕ) (particles : Store) (c r : ℕ) (s : Store) → inColour dim2 (getD ids r 0) c ≡ false
+    → s ≡ run nodes (colouredHits h change ids ranges particles c r) s
 unfolding colouredHits run
-skipped h dt gravity ids ranges particles c r s e = rw e
+skipped h change ids ranges particles c r s e = rw e
 
-pub served : (h dt : Float) (gravity : List Float) (ids ranges : List ℕ) (particles : Store) (c r : ℕ) (s : Store) → inColour dim2 (getD ids r 0) c ≡ true
-    → run nodes (regionHits h dt gravity ids ranges particles r) s ≡ run nodes (colouredHits h dt gravity ids ranges particles c r) s
+pub served : (h : Float) (change : Particle → List ℕ → GridNode → GridNode) (ids ranges : List ℕ) (particles : Store) (c r : ℕ) (s : Store) → inColour dim2 (getD ids r 0) c ≡ true
+    → run nodes (regionHits h change ids ranges particles r) s ≡ run nodes (colouredHits h change ids ranges particles c r) s
 unfolding colouredHits
-served h dt gravity ids ranges particles c r s e = rw e
+served h change ids ranges particles c r s e = rw e

@@ -1,7 +1,7 @@
--- Document 01, "Scatter": what a particle brings to a node, and what becomes of the node. Vectors are lists, an entry an axis, and matrices lists of rows, so that the plane
+-- Document 01, "Scatter": what a particle brings to a node, and what becomes of the node; of "Fluids", what mass alone makes of it. Vectors are lists, an entry an axis, and matrices lists of rows, so that the plane
 -- and space share each definition. Definitions only.
 use mathlib.Core.Bool.{Bool, cond, _&&_, not}
-use mathlib.Core.List.{List, [], _∷_, map}
+use mathlib.Core.List.{List, map}
 use Prim.Native.Nat.{ℕ}
 use lib.Dec.{eqb}
 use lib.Ieee.{Float, lt, ne}
@@ -11,14 +11,18 @@ use Rattle.numeric.specs.Kernel.{invD, dot, precomputeWeights}
 use Rattle.numeric.specs.Scalar.{inverse}
 use Rattle.cells.specs.Stencil.{dirToAssociatedGridNode, dptOf, weightOf}
 use Rattle.grid.specs.declared.grid_node.GridNode.{GridNode}
+use Rattle.particles.specs.Particles.{positionOf}
 use Rattle.particles.specs.declared.particle.Particle.{Particle}
 use Rattle.scatter.specs.declared.particle_to_grid.Contribution.{Contribution}
+use Rattle.scatter.specs.declared.particle_to_grid.Pass.{Pass}
+use Rattle.scatter.specs.declared.particle_to_grid.Pass.the-variants.{ForAll, ForMass}
+use Rattle.scatter.specs.declared.particle_to_grid.Load.{Load}
+use Rattle.scatter.specs.declared.particle_to_grid.Load.the-variants.{All, Mass}
 
 -- ---- on any number of axes
 
 -- what is taken of a particle
 pub record Body : Type 0 where
-  pub position : List Float
   pub velocity : List Float
   pub gradient : List (List Float)
   pub stress : List (List Float)
@@ -36,7 +40,6 @@ pub record Brought : Type 0 where
   pub affine : List (List Float)
   pub psiMass : Float
   pub psiMomentum : Float
-  pub dir : List Float
 
 -- the numbers of a node
 pub record Numbers : Type 0 where
@@ -67,7 +70,6 @@ brought h dt q =
       affine = affineOf (q .mass) ((q .volume0 ⊗ invD h) ⊗ dt) (q .gradient) (stressOf (q .failed) (q .stress));
       psiMass = k;
       psiMomentum = k ⊗ q .psi;
-      dir = dirToAssociatedGridNode h (q .position);
     }
 
 -- A·dpt
@@ -75,10 +77,10 @@ abbrev pub applied : List (List Float) → List Float → List Float
 applied rows x = map (λ (row : List Float). dot row x) rows
 
 -- at each hit: mass += w·m; momentum += w·(A·dpt + m·v); psi mass += w·k; psi momentum += w·(k·psi); then velocity = (momentum + (mass·g)·dt)·inverse(mass)
-unfoldable pub hitBy : Float → Float → List Float → Brought → List ℕ → Numbers → Numbers
-hitBy h dt gravity b shift n =
-    let dpt = dptOf h (b .dir) shift in
-    let w = weightOf (precomputeWeights (b .dir) h) shift in
+unfoldable pub hitBy : Float → Float → List Float → List Float → Brought → List ℕ → Numbers → Numbers
+hitBy h dt gravity dir b shift n =
+    let dpt = dptOf h dir shift in
+    let w = weightOf (precomputeWeights dir h) shift in
     let mass = n .mass ⊕ w ⊗ b .mass in
     let momentum = pairwise _⊕_ (n .momentum) (map (λ (p : Float). w ⊗ p) (pairwise _⊕_ (applied (b .affine) dpt) (b .momentum))) in
     record {
@@ -94,7 +96,6 @@ hitBy h dt gravity b shift n =
 abbrev pub bodyOf : Particle → Body
 bodyOf q =
     record {
-      position = q .position .x ∷ q .position .y ∷ [];
       velocity = axes (q .velocity);
       gradient = rows (q .«velocity_gradient»);
       stress = rows (q .stress);
@@ -131,12 +132,40 @@ broughtBy c =
       affine = rows (c .affine);
       psiMass = c .«psi_mass»;
       psiMomentum = c .«psi_momentum»;
-      dir = axes (c .dir);
     }
 
 -- what a hit makes of a node
-abbrev pub hitNode : Float → Float → List Float → Brought → List ℕ → GridNode → GridNode
-hitNode h dt gravity b shift n = withNumbers (hitBy h dt gravity b shift (numbersOf n)) n
+unfoldable pub hitNode : Float → Float → List Float → List Float → Brought → List ℕ → GridNode → GridNode
+hitNode h dt gravity dir b shift n = withNumbers (hitBy h dt gravity dir b shift (numbersOf n)) n
 
+-- in a scatter, by a particle
 unfoldable pub changed : Float → Float → List Float → Particle → List ℕ → GridNode → GridNode
-changed h dt gravity q shift n = hitNode h dt gravity (brought h dt (bodyOf q)) shift n
+changed h dt gravity q = hitNode h dt gravity (dirToAssociatedGridNode h (positionOf q)) (brought h dt (bodyOf q))
+
+-- ---- mass alone
+
+-- mass += w·m, and nothing else
+unfoldable pub weighedNode : Float → List Float → Float → List ℕ → GridNode → GridNode
+weighedNode h dir m shift n =
+    let w = weightOf (precomputeWeights dir h) shift in
+    record {
+      mass = n .mass ⊕ w ⊗ m;
+      momentum = n .momentum;
+      velocity = n .velocity;
+      «psi_momentum» = n .«psi_momentum»;
+      «psi_mass» = n .«psi_mass»;
+      boundary = n .boundary;
+    }
+
+unfoldable pub weighed : Float → Particle → List ℕ → GridNode → GridNode
+weighed h q = weighedNode h (dirToAssociatedGridNode h (positionOf q)) (q .mass)
+
+-- ---- as the code goes by cases: what particles are taken to the nodes for, and what one of them is loaded with for that
+
+abbrev pub changedFor : Float → Pass → Particle → List ℕ → GridNode → GridNode
+changedFor h (ForAll dt gravity) = changed h dt (axes gravity)
+changedFor h ForMass = weighed h
+
+abbrev pub changedBy : Float → List Float → Load → List ℕ → GridNode → GridNode
+changedBy h dir (All dt gravity c) = hitNode h dt (axes gravity) dir (broughtBy c)
+changedBy h dir (Mass m) = weighedNode h dir m

@@ -4,44 +4,45 @@
 use mathlib.Core.Path.{_≡_}
 use mathlib.Core.Bool.{cond}
 use mathlib.Core.List.{List, [], _∷_}
-use Prim.Native.Nat.{ℕ, _+_, _*_, _^_, _<_}
+use Prim.Native.Nat.{ℕ, _+_, _^_, _<_}
 use lib.Dec.{ltb}
 use lib.Ieee.{Float}
 use lib.ListN.{length, getD}
-use Rattle.packing.specs.Ids.{dim2, region, number, inColour, stencilOf}
+use Rattle.packing.specs.Ids.{dim2, inColour, stencilOf}
 use Rattle.laws.specs.Store.{Store, Holds}
 use Rattle.laws.specs.Hits.{Hit, Within, only, run, gather}
 use Rattle.cells.specs.Cells.{cellAssociatedToPoint}
-use Rattle.cells.specs.Lookup.{lookup}
 use Rattle.cells.specs.Stencil.{stencilCells, shiftAt}
 use Rattle.cells.specs.declared.Found.{Found}
 use Rattle.cells.specs.declared.Found.the-variants.{At, Absent}
-use Rattle.grid.specs.Nodes.{nodeForm, nodeAt, nodes, regionCells}
+use Rattle.grid.specs.Nodes.{nodeForm, nodeAt, nodes}
 use Rattle.grid.specs.Table.{all, finite, goodWidth, goodStep, codes, startOf, countOf}
 use Rattle.grid.specs.declared.Answer.{Answer}
 use Rattle.grid.specs.declared.grid_node.GridNode.{GridNode}
 use Rattle.particles.specs.Particles.{particleAt, positionOf}
+use Rattle.particles.specs.Places.{nodePlace}
 use Rattle.particles.specs.Table.{stageCheck}
 use Rattle.particles.specs.declared.particle.Particle.{Particle}
-use Rattle.scatter.specs.Hit.{changed}
+use Rattle.scatter.specs.Hit.{changed, weighed}
 
 -- ---- the hits
 
--- a hit on the node of a cell: 16 nodes for each listed region, by the cell's number in its region; a region that is not listed has none
-abbrev pub onNode : Found → ℕ → (GridNode → GridNode) → List (Hit GridNode)
-onNode (At r) cell change = record { at = r * regionCells + number dim2 cell; change = change } ∷ []
-onNode Absent cell change = []
+-- a hit on the node at a place; where a cell's region is not listed, there is none
+abbrev pub onNode : Found → (GridNode → GridNode) → List (Hit GridNode)
+onNode (At k) change = record { at = k; change = change } ∷ []
+onNode Absent change = []
 
 -- the colours: two along each axis
 abbrev pub colours : ℕ
 colours = 2 ^ 2
 
-module _ (h dt : Float) (gravity : List Float) (ids : List ℕ) where
+-- whatever a particle changes of a node at a shift: all of a scatter, or mass alone
+module _ (h : Float) (change : Particle → List ℕ → GridNode → GridNode) (ids : List ℕ) where
   -- of a particle, on the k-th cell of its stencil
   unfoldable pub shiftHits : Particle → ℕ → List (Hit GridNode)
   shiftHits q k =
       let cell = getD (stencilOf dim2 (cellAssociatedToPoint dim2 h (positionOf q))) k 0 in
-      onNode (lookup ids (region cell)) cell (changed h dt gravity q (shiftAt dim2 k))
+      onNode (nodePlace ids cell) (change q (shiftAt dim2 k))
 
   -- of a particle: the stencil in order
   unfoldable pub particleHits : Particle → List (Hit GridNode)
@@ -68,12 +69,17 @@ module _ (h dt : Float) (gravity : List Float) (ids : List ℕ) where
     unfoldable pub scatterHits : List (Hit GridNode)
     scatterHits = gather colourHits colours
 
-    -- what full scatter makes of the nodes, and what one region's does
-    unfoldable pub scattered : Store → Store
-    scattered s = run nodes scatterHits s
+-- what full scatter makes of the nodes, and what one region's does
+module _ (h dt : Float) (gravity : List Float) (ids ranges : List ℕ) (particles : Store) where
+  unfoldable pub scattered : Store → Store
+  scattered s = run nodes (scatterHits h (changed h dt gravity) ids ranges particles) s
 
-    unfoldable pub regionScattered : ℕ → Store → Store
-    regionScattered r s = run nodes (regionHits r) s
+  unfoldable pub regionScattered : ℕ → Store → Store
+  regionScattered r s = run nodes (regionHits h (changed h dt gravity) ids ranges particles r) s
+
+-- and what mass alone does, in the full scatter's order
+unfoldable pub massScattered : Float → List ℕ → List ℕ → Store → Store → Store
+massScattered h ids ranges particles s = run nodes (scatterHits h (weighed h) ids ranges particles) s
 
 -- ---- what a call is refused for
 

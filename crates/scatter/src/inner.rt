@@ -1,8 +1,11 @@
-// What the solver's calls share with scatter. No host reaches this.
+// What other calls share with scatter: its check, and its order for mass alone. No host reaches these; `scatter_mass` demands of its caller what the check has shown.
 ghost use mathlib.Core.Path.{_≡_};
 ghost use Rattle.numeric.specs.Axes.{axes};
 ghost use Rattle.laws.specs.Store.{store};
-ghost use Rattle.scatter.specs.Scatter.{scatterCheck};
+ghost use Rattle.particles.specs.Table.{Ready};
+ghost use Rattle.scatter.specs.Scatter.{scatterCheck, massScattered};
+use crate::particle_to_grid::Pass;
+use crate::particle_to_grid::scatter_colors;
 use grid::Answer;
 use grid::inner::is_finite_vector;
 use grid::inner::is_step;
@@ -40,4 +43,20 @@ pub fn check_scatter(
         nf,
         nw,
     )
+}
+
+// The mass of every region's particles alone, in the full scatter's order.
+pub fn scatter_mass(
+    cell_width: f32,
+    ids: &[u64],
+    ranges: &[u64],
+    pf: &[f32],
+    pw: &[u32],
+    nf: &mut [f32],
+    nw: &mut [u32],
+)
+    requires { ⌜ Ready «cell_width» (now ids) (now ranges) (store (now pf) (now pw)) (store (now nf) (now nw)) ⌝ }
+    ensures { λ _. ⌜ store (now (nf .exit)) (now (nw .exit)) ≡ massScattered «cell_width» (now (ids .entry)) (now (ranges .entry)) (store (now (pf .entry)) (now (pw .entry))) (store (now (nf .entry)) (now (nw .entry))) ⌝ }
+{
+    scatter_colors(cell_width, Pass::ForMass, ids, ranges, pf, pw, nf, nw);
 }

@@ -1,24 +1,23 @@
 // Scatter, of all regions colour by colour, and of one region.
 ghost use mathlib.Core.Path.{_≡_};
-ghost use mathlib.Core.Bool.{true};
 ghost use mathlib.Core.List.{[], _∷_};
 ghost use Prim.Native.Nat.{_+_, _*_, _≤_, _<_};
 ghost use lib.ListN.{length};
-ghost use Rattle.packing.specs.Ids.{dim2, region, number};
 ghost use Rattle.numeric.specs.Axes.{axes, rows};
 ghost use Rattle.numeric.specs.Bits.{_⊗_};
 ghost use Rattle.numeric.specs.Kernel.{invD, precomputeWeights};
 ghost use Rattle.laws.specs.Store.{store, Holds};
 ghost use Rattle.laws.specs.Hits.{run};
 ghost use Rattle.laws.specs.Refusals.{settle};
-ghost use Rattle.cells.specs.Lookup.{lookup};
+ghost use Rattle.cells.specs.Stencil.{dirToAssociatedGridNode};
 ghost use Rattle.grid.specs.Answers.{refused};
 ghost use Rattle.grid.specs.declared.Answer.the-variants.{Done};
 ghost use Rattle.grid.specs.Nodes.{nodeForm, nodes, regionCells};
 ghost use Rattle.grid.specs.Table.{rangeWords, startOf, countOf};
-ghost use Rattle.particles.specs.Particles.{particleFloats};
-ghost use Rattle.particles.specs.Table.{listed, Reached, Ready};
-ghost use Rattle.scatter.specs.Hit.{stressOf, affineOf, psiMassOf, bodyOf, brought, broughtBy, hitNode};
+ghost use Rattle.particles.specs.Particles.{particleFloats, positionOf};
+ghost use Rattle.particles.specs.Places.{nodePlace};
+ghost use Rattle.particles.specs.Table.{Ready};
+ghost use Rattle.scatter.specs.Hit.{stressOf, affineOf, psiMassOf, bodyOf, brought, broughtBy, hitNode, weighedNode, changedFor, changedBy};
 ghost use Rattle.scatter.specs.Scatter.{onNode, particleHits, rangeHits, colouredHits, colourHits, scatterHits, scattered, regionScattered, scatterCheck, placeCheck};
 use crate::inner::check_scatter;
 use cells::Found;
@@ -29,7 +28,6 @@ use cells::inner::nbh_shift;
 use cells::inner::weight;
 use grid::Answer;
 use grid::Rule;
-use grid::grid_node::CELLS_OF_REGION;
 use grid::grid_node::GridNode;
 use grid::inner::RANGE_WORDS;
 use grid::inner::read_node;
@@ -38,20 +36,32 @@ use numeric::dim2::Matrix;
 use numeric::dim2::Vector;
 use numeric::inv_exact;
 use packing::dim2::Cell;
+use particles::inner::node_place;
 use particles::inner::read_particle;
 use particles::particle::Particle;
 
 // The regions' colours, two along each axis.
 const COLORS: u64 = 4;
 
-// What a particle brings to each node of its stencil.
+// What particles are taken to the nodes for: all of a scatter, by its step and gravity, or their mass alone.
+pub(crate) enum Pass {
+    ForAll(f32, Vector),
+    ForMass,
+}
+
+// What a particle brings to each node of its stencil in a scatter.
 struct Contribution {
     mass: f32,
     momentum: Vector,
     affine: Matrix,
     psi_mass: f32,
     psi_momentum: f32,
-    dir: Vector,
+}
+
+// What a particle is loaded with in a pass.
+enum Load {
+    All(f32, Vector, Contribution),
+    Mass(f32),
 }
 
 // Every region's particles, colours 0 to 3 and regions in the list's order; or the call is refused, and nothing changes.
@@ -88,7 +98,16 @@ pub fn particle_to_grid_scatter(
     let Answer::Done = a else {
         return a;
     };
-    scatter_colors(cell_width, dt, gravity, ids, ranges, pf, pw, nf, nw);
+    scatter_colors(
+        cell_width,
+        Pass::ForAll(dt, gravity),
+        ids,
+        ranges,
+        pf,
+        pw,
+        nf,
+        nw,
+    );
     Answer::Done
 }
 
@@ -131,8 +150,7 @@ pub fn particle_to_grid_scatter_region(
     let count = count_of(ranges, place);
     scatter_particles(
         cell_width,
-        dt,
-        gravity,
+        Pass::ForAll(dt, gravity),
         ids,
         ranges,
         pf,
@@ -154,10 +172,9 @@ fn check_place(place: usize, regions: usize) -> Answer
     Answer::Refused(Rule::Code, 0)
 }
 
-fn scatter_colors(
+pub(crate) fn scatter_colors(
     cell_width: f32,
-    dt: f32,
-    gravity: Vector,
+    pass: Pass,
     ids: &[u64],
     ranges: &[u64],
     pf: &[f32],
@@ -166,11 +183,11 @@ fn scatter_colors(
     nw: &mut [u32],
 )
     requires { ⌜ Ready «cell_width» (now ids) (now ranges) (store (now pf) (now pw)) (store (now nf) (now nw)) ⌝ }
-    ensures { λ _. ⌜ store (now (nf .exit)) (now (nw .exit)) ≡ run nodes (scatterHits «cell_width» dt (axes gravity) (now (ids .entry)) (now (ranges .entry)) (store (now (pf .entry)) (now (pw .entry)))) (store (now (nf .entry)) (now (nw .entry))) ⌝ }
+    ensures { λ _. ⌜ store (now (nf .exit)) (now (nw .exit)) ≡ run nodes (scatterHits «cell_width» (changedFor «cell_width» pass) (now (ids .entry)) (now (ranges .entry)) (store (now (pf .entry)) (now (pw .entry)))) (store (now (nf .entry)) (now (nw .entry))) ⌝ }
 {
     let mut color = 0;
     while color < COLORS {
-        scatter_color(cell_width, dt, gravity, ids, ranges, pf, pw, color, nf, nw);
+        scatter_color(cell_width, pass, ids, ranges, pf, pw, color, nf, nw);
         color += 1;
     }
 }
@@ -178,8 +195,7 @@ fn scatter_colors(
 // The regions of one colour.
 fn scatter_color(
     cell_width: f32,
-    dt: f32,
-    gravity: Vector,
+    pass: Pass,
     ids: &[u64],
     ranges: &[u64],
     pf: &[f32],
@@ -189,23 +205,11 @@ fn scatter_color(
     nw: &mut [u32],
 )
     requires { ⌜ Ready «cell_width» (now ids) (now ranges) (store (now pf) (now pw)) (store (now nf) (now nw)) ⌝ }
-    ensures { λ _. ⌜ store (now (nf .exit)) (now (nw .exit)) ≡ run nodes (colourHits «cell_width» dt (axes gravity) (now (ids .entry)) (now (ranges .entry)) (store (now (pf .entry)) (now (pw .entry))) color) (store (now (nf .entry)) (now (nw .entry))) ⌝ }
+    ensures { λ _. ⌜ store (now (nf .exit)) (now (nw .exit)) ≡ run nodes (colourHits «cell_width» (changedFor «cell_width» pass) (now (ids .entry)) (now (ranges .entry)) (store (now (pf .entry)) (now (pw .entry))) color) (store (now (nf .entry)) (now (nw .entry))) ⌝ }
 {
     let mut r = 0;
     while r < ids.len() {
-        scatter_colored(
-            cell_width,
-            dt,
-            gravity,
-            ids,
-            ranges,
-            pf,
-            pw,
-            color,
-            r,
-            nf,
-            nw,
-        );
+        scatter_colored(cell_width, pass, ids, ranges, pf, pw, color, r, nf, nw);
         r += 1;
     }
 }
@@ -213,8 +217,7 @@ fn scatter_color(
 // The region at a place, where it has the colour.
 fn scatter_colored(
     cell_width: f32,
-    dt: f32,
-    gravity: Vector,
+    pass: Pass,
     ids: &[u64],
     ranges: &[u64],
     pf: &[f32],
@@ -225,7 +228,7 @@ fn scatter_colored(
     nw: &mut [u32],
 )
     requires { ⌜ (place < length (now ids)) × Ready «cell_width» (now ids) (now ranges) (store (now pf) (now pw)) (store (now nf) (now nw)) ⌝ }
-    ensures { λ _. ⌜ store (now (nf .exit)) (now (nw .exit)) ≡ run nodes (colouredHits «cell_width» dt (axes gravity) (now (ids .entry)) (now (ranges .entry)) (store (now (pf .entry)) (now (pw .entry))) color place) (store (now (nf .entry)) (now (nw .entry))) ⌝ }
+    ensures { λ _. ⌜ store (now (nf .exit)) (now (nw .exit)) ≡ run nodes (colouredHits «cell_width» (changedFor «cell_width» pass) (now (ids .entry)) (now (ranges .entry)) (store (now (pf .entry)) (now (pw .entry))) color place) (store (now (nf .entry)) (now (nw .entry))) ⌝ }
 {
     let id = ids[place];
     if !packing::dim2::is_in_region_with_color(id, color) {
@@ -233,19 +236,7 @@ fn scatter_colored(
     }
     let first = start_of(ranges, place);
     let number = count_of(ranges, place);
-    scatter_particles(
-        cell_width,
-        dt,
-        gravity,
-        ids,
-        ranges,
-        pf,
-        pw,
-        first,
-        number,
-        nf,
-        nw,
-    );
+    scatter_particles(cell_width, pass, ids, ranges, pf, pw, first, number, nf, nw);
 }
 
 // Where a region's particles begin, and how many they are.
@@ -266,8 +257,7 @@ fn count_of(ranges: &[u64], place: usize) -> usize
 // `count` particles from `start` on.
 fn scatter_particles(
     cell_width: f32,
-    dt: f32,
-    gravity: Vector,
+    pass: Pass,
     ids: &[u64],
     ranges: &[u64],
     pf: &[f32],
@@ -278,12 +268,12 @@ fn scatter_particles(
     nw: &mut [u32],
 )
     requires { ⌜ ((start + count) * particleFloats ≤ length (now pf)) × Ready «cell_width» (now ids) (now ranges) (store (now pf) (now pw)) (store (now nf) (now nw)) ⌝ }
-    ensures { λ _. ⌜ store (now (nf .exit)) (now (nw .exit)) ≡ run nodes (rangeHits «cell_width» dt (axes gravity) (now (ids .entry)) (store (now (pf .entry)) (now (pw .entry))) start count) (store (now (nf .entry)) (now (nw .entry))) ⌝ }
+    ensures { λ _. ⌜ store (now (nf .exit)) (now (nw .exit)) ≡ run nodes (rangeHits «cell_width» (changedFor «cell_width» pass) (now (ids .entry)) (store (now (pf .entry)) (now (pw .entry))) start count) (store (now (nf .entry)) (now (nw .entry))) ⌝ }
 {
     let mut left = count;
     while 0 < left {
         let q = read_particle(pf, pw, start + (count - left));
-        scatter_particle(cell_width, dt, gravity, ids, q, nf, nw);
+        scatter_particle(cell_width, pass, ids, q, nf, nw);
         left -= 1;
     }
 }
@@ -291,18 +281,18 @@ fn scatter_particles(
 // One particle, on the nine nodes of its stencil.
 fn scatter_particle(
     cell_width: f32,
-    dt: f32,
-    gravity: Vector,
+    pass: Pass,
     ids: &[u64],
     q: Particle,
     nf: &mut [f32],
     nw: &mut [u32],
 )
-    requires { ⌜ Reached «cell_width» (now ids) q × Holds nodeForm (store (now nf) (now nw)) (length (now ids) * regionCells) ⌝ }
-    ensures { λ _. ⌜ store (now (nf .exit)) (now (nw .exit)) ≡ run nodes (particleHits «cell_width» dt (axes gravity) (now (ids .entry)) q) (store (now (nf .entry)) (now (nw .entry))) ⌝ }
+    requires { ⌜ Holds nodeForm (store (now nf) (now nw)) (length (now ids) * regionCells) ⌝ }
+    ensures { λ _. ⌜ store (now (nf .exit)) (now (nw .exit)) ≡ run nodes (particleHits «cell_width» (changedFor «cell_width» pass) (now (ids .entry)) q) (store (now (nf .entry)) (now (nw .entry))) ⌝ }
 {
-    let c = contribution_of(cell_width, dt, q);
-    let w = numeric::dim2::precompute_weights(c.dir, cell_width);
+    let dir = dir_to_associated_grid_node(cell_width, q.position);
+    let load = load_of(cell_width, pass, q);
+    let w = numeric::dim2::precompute_weights(dir, cell_width);
     let stencil = packing::dim2::stencil(cells::dim2::cell_associated_to_point(
         cell_width,
         q.position,
@@ -312,11 +302,10 @@ fn scatter_particle(
         let k = STENCIL_CELLS - left;
         hit(
             cell_width,
-            dt,
-            gravity,
             ids,
             stencil[k],
-            c,
+            dir,
+            load,
             w,
             nbh_shift(k),
             nf,
@@ -326,45 +315,61 @@ fn scatter_particle(
     }
 }
 
-// One node. Its region is listed, as the check has shown.
+// One node. Its region is listed, as the check has shown; of another there would be none.
 fn hit(
     cell_width: f32,
-    dt: f32,
-    gravity: Vector,
     ids: &[u64],
     cell_id: u64,
-    c: Contribution,
+    dir: Vector,
+    load: Load,
     w: [[f32; 3]; 2],
     shift: Cell,
     nf: &mut [f32],
     nw: &mut [u32],
 )
-    requires { ⌜ (listed (now ids) «cell_id» ≡ true) × (number dim2 «cell_id» < regionCells) × (w ≡ precomputeWeights (axes (c .dir)) «cell_width») × (shift .x < 3) × (shift .y < 3)
-        × Holds nodeForm (store (now nf) (now nw)) (length (now ids) * regionCells) ⌝ }
-    ensures { λ _. ⌜ store (now (nf .exit)) (now (nw .exit)) ≡ run nodes (onNode (lookup (now (ids .entry)) (region «cell_id»)) «cell_id» (hitNode «cell_width» dt (axes gravity) (broughtBy c) (shift .x ∷ shift .y ∷ []))) (store (now (nf .entry)) (now (nw .entry))) ⌝ }
+    requires { ⌜ (w ≡ precomputeWeights (axes dir) «cell_width») × (shift .x < 3) × (shift .y < 3) × Holds nodeForm (store (now nf) (now nw)) (length (now ids) * regionCells) ⌝ }
+    ensures { λ _. ⌜ store (now (nf .exit)) (now (nw .exit)) ≡ run nodes (onNode (nodePlace (now (ids .entry)) «cell_id») (changedBy «cell_width» (axes dir) load (shift .x ∷ shift .y ∷ []))) (store (now (nf .entry)) (now (nw .entry))) ⌝ }
 {
-    let Found::At(place) = cells::lookup(ids, packing::region_of(cell_id)) else {
+    let Found::At(k) = node_place(ids, cell_id) else {
         return;
     };
-    let k = place * CELLS_OF_REGION + packing::dim2::number_in_region(cell_id) as usize;
     let n = read_node(nf, nw, k);
-    write_node(nf, nw, k, change(cell_width, dt, gravity, c, w, shift, n));
+    write_node(nf, nw, k, unload(cell_width, dir, load, w, shift, n));
 }
 
-// What a hit makes of a node.
+// What a load makes of a node.
+fn unload(
+    cell_width: f32,
+    dir: Vector,
+    load: Load,
+    w: [[f32; 3]; 2],
+    shift: Cell,
+    n: GridNode,
+) -> GridNode
+    requires { ⌜ (w ≡ precomputeWeights (axes dir) «cell_width») × (shift .x < 3) × (shift .y < 3) ⌝ }
+    ensures { λ r. ⌜ r ≡ changedBy «cell_width» (axes dir) load (shift .x ∷ shift .y ∷ []) n ⌝ }
+{
+    match load {
+        Load::All(dt, gravity, c) => change(cell_width, dt, gravity, dir, c, w, shift, n),
+        Load::Mass(mass) => weigh(cell_width, dir, mass, w, shift, n),
+    }
+}
+
+// What a hit makes of a node in a scatter.
 fn change(
     cell_width: f32,
     dt: f32,
     gravity: Vector,
+    dir: Vector,
     c: Contribution,
     w: [[f32; 3]; 2],
     shift: Cell,
     n: GridNode,
 ) -> GridNode
-    requires { ⌜ (w ≡ precomputeWeights (axes (c .dir)) «cell_width») × (shift .x < 3) × (shift .y < 3) ⌝ }
-    ensures { λ r. ⌜ r ≡ hitNode «cell_width» dt (axes gravity) (broughtBy c) (shift .x ∷ shift .y ∷ []) n ⌝ }
+    requires { ⌜ (w ≡ precomputeWeights (axes dir) «cell_width») × (shift .x < 3) × (shift .y < 3) ⌝ }
+    ensures { λ r. ⌜ r ≡ hitNode «cell_width» dt (axes gravity) (axes dir) (broughtBy c) (shift .x ∷ shift .y ∷ []) n ⌝ }
 {
-    let dpt = dpt(cell_width, c.dir, shift);
+    let dpt = dpt(cell_width, dir, shift);
     let weight = weight(w, shift);
     let mass = n.mass + weight * c.mass;
     let momentum = Vector {
@@ -385,6 +390,39 @@ fn change(
     }
 }
 
+// What mass alone makes of a node.
+fn weigh(
+    cell_width: f32,
+    dir: Vector,
+    mass: f32,
+    w: [[f32; 3]; 2],
+    shift: Cell,
+    n: GridNode,
+) -> GridNode
+    requires { ⌜ (w ≡ precomputeWeights (axes dir) «cell_width») × (shift .x < 3) × (shift .y < 3) ⌝ }
+    ensures { λ r. ⌜ r ≡ weighedNode «cell_width» (axes dir) mass (shift .x ∷ shift .y ∷ []) n ⌝ }
+{
+    let momentum = n.momentum;
+    let velocity = n.velocity;
+    GridNode {
+        mass: n.mass + weight(w, shift) * mass,
+        momentum: momentum,
+        velocity: velocity,
+        psi_momentum: n.psi_momentum,
+        psi_mass: n.psi_mass,
+        boundary: n.boundary,
+    }
+}
+
+fn load_of(cell_width: f32, pass: Pass, q: Particle) -> Load
+    ensures { λ r. ⌜ changedBy «cell_width» (dirToAssociatedGridNode «cell_width» (positionOf q)) r ≡ changedFor «cell_width» pass q ⌝ }
+{
+    match pass {
+        Pass::ForAll(dt, gravity) => Load::All(dt, gravity, contribution_of(cell_width, dt, q)),
+        Pass::ForMass => Load::Mass(q.mass),
+    }
+}
+
 fn contribution_of(cell_width: f32, dt: f32, q: Particle) -> Contribution
     ensures { λ r. ⌜ broughtBy r ≡ brought «cell_width» dt (bodyOf q) ⌝ }
 {
@@ -398,7 +436,6 @@ fn contribution_of(cell_width: f32, dt: f32, q: Particle) -> Contribution
         affine: affine_of(cell_width, dt, q),
         psi_mass: psi_mass,
         psi_momentum: psi_mass * q.psi_pos,
-        dir: dir_to_associated_grid_node(cell_width, q.position),
     }
 }
 

@@ -5,12 +5,12 @@ use mathlib.Core.List.{List}
 use mathlib.Core.Path.{ap}
 use lib.Ieee.{Float, nan}
 use lib.ListN.{getD}
-use Rattle.scatter.specs.Hit.{hitBy}
+use Rattle.scatter.specs.Hit.{hitBy, hitNode}
 use Rattle.scatter.proofs.particle_to_grid.change.Statement.{statement}
 use Rattle.scatter.proofs.particle_to_grid.change.Tie as tie
 
 returns : tie.Need-returns
-unfolding hitBy
+unfolding hitNode hitBy
 returns c =
     let b = c .before .before .before .before .before .before .before .before in
     let a = b .before .before .before .before .before .before .before .before .before .before .before .before .before .before .before in

@@ -42,7 +42,7 @@ scatter-particles-requires c κs =
     let r =
     region-ready (g .place) (c .before .before .before .before .before .before .before .check-place .result) (c .before .before .before .before .before .before .check-scatter .result) (g .cell-width) (g .dt) (axes (g .gravity)) (g .regions) (now (g .ids)) (now (g .ranges)) (g .particles)
     (store (now (g .pf)) (now (g .pw))) (now (g .nf)) (now (g .nw)) (c .before .before .before .before .before .before .before .check-place .ensures) (c .before .before .before .before .before .before .check-scatter .ensures) (c .before .before .before .before .enum-told .given .1) in
-    (omega (arith, range-there _ _ _ _ _ (r .1 .ready) (g .place) (r .0), r .1 .particles-long, c .before .before .before .start-of .ensures, c .before .before .count-of .ensures), r .1 .ready)
+    (omega (arith, range-there _ _ _ _ _ (r .1 .ready) (g .place) (r .0), r .1 .held .floats-long, c .before .before .before .start-of .ensures, c .before .before .count-of .ensures), r .1 .ready)
 
 returns-2 : tie.Need-returns-2
 unfolding regionScattered regionHits

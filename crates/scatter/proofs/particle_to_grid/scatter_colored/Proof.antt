@@ -11,7 +11,7 @@ use Rattle.scatter.proofs.particle_to_grid.scatter_colored.Statement.{s
 use Rattle.scatter.proofs.particle_to_grid.scatter_colored.Tie as tie
 
 returns : tie.Need-returns
-returns c = skipped _ _ _ _ _ _ _ _ _ (sym (c .before .is-in-region-with-color .ensures) ∙ not-true _ (c .if1 .taken))
+returns c = skipped _ _ _ _ _ _ _ _ (sym (c .before .is-in-region-with-color .ensures) ∙ not-true _ (c .if1 .taken))
 
 scatter-particles-requires : tie.Need-scatter-particles-requires
 scatter-particles-requires c κs =
@@ -23,7 +23,7 @@ unfolding regionHits
 returns-2 c =
     c .before .before .before .before .scatter-particles .ensures
     ∙ rw (c .before .before .before .before .before .before .before .before .start-of .ensures, c .before .before .before .before .before .before .before .count-of .ensures)
-    (served _ _ _ _ _ _ _ _ _ (sym (c .before .before .before .before .before .before .before .before .before .before .is-in-region-with-color .ensures) ∙ not-false _ (c .before .before .before .before .before .before .before .before .before .if1 .left)))
+    (served _ _ _ _ _ _ _ _ (sym (c .before .before .before .before .before .before .before .before .before .before .is-in-region-with-color .ensures) ∙ not-false _ (c .before .before .before .before .before .before .before .before .before .if1 .left)))
 
 pub scatter-colored-spec : {M : Type 1} → statement M
 scatter-colored-spec =

@@ -6,23 +6,23 @@ use native.Mathlib.Omega.{arith}
 use borrow.Author.Needs.{needs}
 use lib.ListN.{length}
 use denote.Ref.{now}
-use Rattle.numeric.specs.Axes.{axes}
 use Rattle.laws.specs.Store.{store, Holds}
 use Rattle.laws.specs.Hits.{run, gather}
 use Rattle.laws.proofs.Hits.{run-none, run-left}
 use Rattle.grid.specs.Nodes.{nodeForm, nodes, regionCells}
 use Rattle.particles.specs.Particles.{particleAt}
+use Rattle.scatter.specs.Hit.{changedFor}
 use Rattle.scatter.specs.Scatter.{particleHits, rangeHits}
 use Rattle.scatter.proofs.particle_to_grid.scatter_particles.Statement.{statement}
 use Rattle.scatter.proofs.particle_to_grid.scatter_particles.Tie as tie
 
 abbrev Inv-loop : tie.InvT-loop
-Inv-loop h dt gravity ids ranges pf pw start count nf₀ nw₀ left₀ nf nw left =
+Inv-loop h pass ids ranges pf pw start count nf₀ nw₀ left₀ nf nw left =
     (left ≤ count) × Holds nodeForm (store nf nw) (length ids * regionCells)
-    × (store nf nw ≡ run nodes (gather (λ j. particleHits h dt (axes gravity) ids (particleAt (store pf pw) (start + j))) (count - left)) (store nf₀ nw₀))
+    × (store nf nw ≡ run nodes (gather (λ j. particleHits h (changedFor h pass) ids (particleAt (store pf pw) (start + j))) (count - left)) (store nf₀ nw₀))
 
 abbrev μ-loop : tie.MeasureT-loop
-μ-loop h dt gravity ids ranges pf pw start count nf₀ nw₀ left₀ nf nw left = left
+μ-loop h pass ids ranges pf pw start count nf₀ nw₀ left₀ nf nw left = left
 
 loop-holds : tie.Need-loop-holds Inv-loop μ-loop
 loop-holds c =
@@ -39,11 +39,7 @@ read-particle-requires c κs =
     (omega (arith, c .before .before .before .before .before .before .before .before .pre .0), omega (arith, c .before .before .before .before .before .before .before .before .pre .0, held .floats-long, held .words-long))
 
 scatter-particle-requires : tie.Need-scatter-particle-requires Inv-loop μ-loop
-scatter-particle-requires c κs =
-    let ready = c .before .before .before .before .before .before .before .before .before .before .before .pre .1 in (
-      rw (c .before .before .read-particle .ensures) (ready .accepted .stencils _ (omega (arith, c .before .before .before .before .before .before .before .before .before .before .before .pre .0, ready .particles-held .floats-long))),
-      c .before .before .before .before .loop .inv .1,
-    )
+scatter-particle-requires c κs = c .before .before .before .before .loop .inv .1
 
 loop-again : tie.Need-loop-again Inv-loop μ-loop
 loop-again c =
@@ -52,7 +48,7 @@ loop-again c =
     let g = c .before .before .before .before .before .before .before .before .before .before .before .before .before .before .before .before .args in (
       omega arith,
       record { floats-long = omega (arith, l .inv .1 .floats-long, kept); words-long = omega (arith, l .inv .1 .words-long, kept) },
-      run-left nodes (λ j. particleHits (g .cell-width) (g .dt) (axes (g .gravity)) (now (g .ids)) (particleAt (store (now (g .pf)) (now (g .pw))) (g .start + j)))
+      run-left nodes (λ j. particleHits (g .cell-width) (changedFor (g .cell-width) (g .pass)) (now (g .ids)) (particleAt (store (now (g .pf)) (now (g .pw))) (g .start + j)))
           (g .count) (l .left) _ _ _ (omega arith) (omega arith) (l .inv .2) (c .before .before .before .before .scatter-particle .ensures ∙ rw (c .before .before .before .before .before .before .before .read-particle .ensures)),
     )
 
