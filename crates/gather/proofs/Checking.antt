@@ -2,8 +2,7 @@
 use mathlib.Core.Path.{_≡_, ap, _∙_}
 use mathlib.Core.Bool.{Bool, true, false, _&&_, not}
 use mathlib.Core.List.{List, [], _∷_}
-use Prim.Native.Nat.{ℕ, _*_, _<_}
-use native.Mathlib.Omega.{arith}
+use Prim.Native.Nat.{ℕ, _*_}
 use lib.Dec.{eqb}
 use lib.Ieee.{Float}
 use lib.ListN.{length}
@@ -17,29 +16,18 @@ use Rattle.grid.specs.declared.Answer.the-variants.{Done}
 use Rattle.grid.specs.declared.Rule.the-variants.{Length}
 use Rattle.grid.proofs.Lengths.{and-split, regroup}
 use Rattle.grid.proofs.Steps.{called-then, passed}
-use Rattle.particles.specs.Particles.{particleFloats, particleWords, particleForm, particleAt}
-use Rattle.particles.specs.Table.{particleLengths, Reached}
+use Rattle.particles.specs.Particles.{particleFloats, particleWords, particleForm}
+use Rattle.particles.specs.Table.{particleLengths}
 use Rattle.particles.proofs.Staging.{staged}
 use Rattle.gather.specs.Gather.{givenFloats, givenWords, givenLengths, firstCheck, recordsCheck, secondCheck}
 
--- a first half that is not refused has all that it builds on
-pub record FirstReady (h : Float) (ids : List ℕ) (count : ℕ) (s nodes : Store) : Type 0 where
-  pub particles-held : Holds particleForm s count
-  pub nodes-held : Holds nodeForm nodes (length ids * regionCells)
-  pub stencils : (p : ℕ) → p < count → Reached h ids (particleAt s p)
-
-pub first-ready : (h dt : Float) (modified regions : ℕ) (ids ranges : List ℕ) (count : ℕ) (s : Store) (nf : List Float) (nw : List ℕ)
-    → refused (firstCheck h dt modified regions ids ranges count s (length nf) (length nw)) ≡ false → FirstReady h ids count s (store nf nw)
+-- a first half that is not refused has the particles and the nodes that it builds on
+pub first-held : (h dt : Float) (modified regions : ℕ) (ids ranges : List ℕ) (count : ℕ) (s : Store) (nf : List Float) (nw : List ℕ)
+    → refused (firstCheck h dt modified regions ids ranges count s (length nf) (length nw)) ≡ false → Holds particleForm s count × Holds nodeForm (store nf nw) (length ids * regionCells)
 unfolding firstCheck
-first-ready h dt modified regions ids ranges count s nf nw e =
+first-held h dt modified regions ids ranges count s nf nw e =
     let r = staged (goodWidth h ∷ goodStep dt ∷ []) (codes (isFlag modified ∷ [])) h regions ids ranges count s nf nw e in
-    let held = r .ready .particles-held in
-    let same : r .ready .count ≡ count = omega (arith, r .particles-long, held .floats-long) in
-    record {
-      particles-held = record { floats-long = r .particles-long; words-long = omega (arith, same, held .words-long) };
-      nodes-held = r .ready .nodes-held;
-      stencils = λ p l. r .ready .accepted .stencils p (omega (arith, l, same));
-    }
+    (r .held, r .ready .nodes-held)
 
 module _ (count : ℕ) (s given : Store) where
   -- whether all lengths match, as the code asks

@@ -5,48 +5,52 @@ use mathlib.Core.List.{List, [], _∷_, _++_}
 use Prim.Native.Nat.{ℕ, zero, suc, _+_, _*_, _<_}
 use lib.Ieee.{Float, nan}
 use lib.ListN.{length, getD}
-use Rattle.packing.specs.Ids.{dim2, region, number, stencilOf}
+use Rattle.packing.specs.Ids.{dim2, stencilOf}
 use Rattle.numeric.specs.Bits.{none}
 use Rattle.laws.specs.Store.{Store, Holds}
-use Rattle.laws.specs.Hits.{Hit, run, gather}
+use Rattle.laws.specs.Hits.{run, changes}
 use Rattle.cells.specs.Cells.{cellAssociatedToPoint}
-use Rattle.cells.specs.Lookup.{lookup}
 use Rattle.cells.specs.Stencil.{stencilCells, shiftAt, dirToAssociatedGridNode}
 use Rattle.cells.specs.declared.Found.{Found}
 use Rattle.cells.specs.declared.Found.the-variants.{At, Absent}
 use Rattle.grid.specs.Answers.{first}
-use Rattle.grid.specs.Nodes.{nodeAt, regionCells}
+use Rattle.grid.specs.Nodes.{nodeAt, emptyNode}
 use Rattle.grid.specs.Table.{lengths, limits, goodWidth, goodStep, codes, isFlag, flags, numbers}
 use Rattle.grid.specs.declared.Answer.{Answer}
 use Rattle.grid.specs.declared.Rule.the-variants.{Code, NotFinite}
 use Rattle.grid.specs.declared.grid_node.GridNode.{GridNode}
 use Rattle.particles.specs.Particles.{particleForm, particleAt, particles, positionOf}
+use Rattle.particles.specs.Places.{nodePlace}
 use Rattle.particles.specs.Table.{particleLengths, firstParticle, stageCheck}
 use Rattle.particles.specs.declared.particle.Particle.{Particle}
 use Rattle.gather.specs.Transfer.{Taken, Given, nothing, takenFrom, on, nodeOf, advanced, finished}
 
 -- ---- the first half
 
--- from the node of a cell: 16 nodes for each listed region, by the cell's number in its region; a region that is not listed has none
-abbrev pub fromNode : Store → Found → ℕ → (GridNode → Taken → Taken) → Taken → Taken
-fromNode nodes (At r) cell take a = take (nodeAt nodes (r * regionCells + number dim2 cell)) a
-fromNode nodes Absent cell take a = a
+-- the node at a place. A cell whose region is not listed has none, and is refused with 10; it would count as empty.
+abbrev pub nodeFound : Store → Found → GridNode
+nodeFound nodes (At k) = nodeAt nodes k
+nodeFound nodes Absent = emptyNode
+
+unfoldable pub nodeOfCell : List ℕ → Store → ℕ → GridNode
+nodeOfCell ids nodes cell = nodeFound nodes (nodePlace ids cell)
+
+-- what the nodes of a stencil add up to, in stencil order: of its first n cells
+module _ {A : Type 0} (ids : List ℕ) (nodes : Store) (add : List ℕ → GridNode → A → A) (start : A) where
+  unfoldable pub overCells : List ℕ → ℕ → A
+  overCells stencil zero = start
+  overCells stencil (suc n) = add (shiftAt dim2 n) (nodeOfCell ids nodes (getD stencil n 0)) (overCells stencil n)
+
+-- and of all of them, for a point
+abbrev pub overStencil : {A : Type 0} → Float → List ℕ → Store → (List ℕ → GridNode → A → A) → A → List Float → A
+overStencil h ids nodes add start position = overCells ids nodes add start (stencilOf dim2 (cellAssociatedToPoint dim2 h position)) stencilCells
 
 module _ (h : Float) (ids : List ℕ) (nodes : Store) where
-  -- from the k-th cell of a stencil
-  unfoldable pub fromCell : List Float → List ℕ → ℕ → Taken → Taken
-  fromCell dir stencil k a =
-      let cell = getD stencil k 0 in
-      fromNode nodes (lookup ids (region cell)) cell (λ (n : GridNode). takenFrom h dir (shiftAt dim2 k) (nodeOf n)) a
-
-  -- from +0, in stencil order, from the first n cells
-  unfoldable pub fromCells : List Float → List ℕ → ℕ → Taken
-  fromCells dir stencil zero = nothing dir
-  fromCells dir stencil (suc n) = fromCell dir stencil n (fromCells dir stencil n)
-
-  -- by a particle at a place
+  -- from +0, by a particle at a point
   unfoldable pub taken : List Float → Taken
-  taken position = fromCells (dirToAssociatedGridNode h position) (stencilOf dim2 (cellAssociatedToPoint dim2 h position)) stencilCells
+  taken position =
+      let dir = dirToAssociatedGridNode h position in
+      overStencil h ids nodes (λ (shift : List ℕ) (n : GridNode). takenFrom h dir shift (nodeOf n)) (nothing dir) position
 
   -- what becomes of a particle
   unfoldable pub firstChange : Float → ℕ → Particle → Particle
@@ -73,14 +77,6 @@ unfoldable pub secondChange : Store → ℕ → Particle → Particle
 secondChange given p q = finished (givenAt given p) q
 
 -- ---- of every particle
-
--- one change at a place
-abbrev pub changeAt : (ℕ → Particle → Particle) → ℕ → List (Hit Particle)
-changeAt change p = record { at = p; change = change p } ∷ []
-
--- the first n particles, each changed by its place
-unfoldable pub changes : (ℕ → Particle → Particle) → ℕ → List (Hit Particle)
-changes change n = gather (changeAt change) n
 
 unfoldable pub firstHalf : Float → Float → ℕ → List ℕ → Store → ℕ → Store → Store
 firstHalf h dt modified ids nodes count s = run particles (changes (λ (p : ℕ). firstChange h ids nodes dt modified) count) s

@@ -77,11 +77,15 @@ eroded modified h p q = cond (modified && (ne (q .crack) none && (lt none (q .ph
 abbrev pub solidDeformed : Float → List (List Float) → List (List Float) → List (List Float)
 solidDeformed dt g f = pairwise (pairwise _⊕_) f (matrixProduct (map (map (λ (x : Float). x ⊗ dt)) g) f)
 
+-- F00 alone, which is a fluid's
+abbrev pub entry00 : (Float → Float) → List (List Float) → List (List Float)
+entry00 change [] = []
+entry00 change ([] ∷ rows) = [] ∷ rows
+entry00 change ((f ∷ fs) ∷ rows) = (change f ∷ fs) ∷ rows
+
 -- fluid: F00 += (D·dt)·F00
 abbrev pub fluidDeformed : Float → Float → List (List Float) → List (List Float)
-fluidDeformed dt d [] = []
-fluidDeformed dt d ([] ∷ rows) = [] ∷ rows
-fluidDeformed dt d ((f ∷ fs) ∷ rows) = (f ⊕ (d ⊗ dt) ⊗ f ∷ fs) ∷ rows
+fluidDeformed dt d f = entry00 (λ (x : Float). x ⊕ (d ⊗ dt) ⊗ x) f
 
 abbrev pub deformed : Float → Taken → Body → List (List Float)
 deformed dt a q = cond (q .fluid) (fluidDeformed dt (a .divergence) (q .deformation)) (solidDeformed dt (a .gradient) (q .deformation))

@@ -9,7 +9,7 @@ use Rattle.numeric.specs.Kernel.{invD, evalAll, precomputeWeights}
 use Rattle.numeric.specs.Round.{roundAway, nearestTo}
 use Rattle.numeric.specs.Scalar.{inverse, maximum, magnitude}
 use Rattle.laws.specs.Store.{Store, store}
-use Rattle.laws.specs.Hits.{hit, run, gather}
+use Rattle.laws.specs.Hits.{hit, run, gather, changes}
 use Rattle.laws.specs.Refusals as Refusals
 use Rattle.laws.proofs.Records.{records}
 use Rattle.cells.specs.Stencil.{dirToAssociatedGridNode}
@@ -21,24 +21,24 @@ use Rattle.particles.specs.Particles.{particleForm, particleAt, particles}
 use Rattle.particles.specs.Table.{badFlag, notFinite, judged, firstParticle, placed, checked}
 use Rattle.particles.specs.declared.particle.Particle.{Particle}
 use Rattle.gather.specs.Transfer.{Taken, Body, Given, State, nothing, takenFrom, moved, fails, settled, advanced, finished}
-use Rattle.gather.specs.Gather.{secondChange, changes, secondHalf, firstCheck, recordsCheck, secondCheck}
+use Rattle.gather.specs.Gather.{secondChange, secondHalf, firstCheck, recordsCheck, secondCheck}
 
-abbrev bits : Float → ℕ
+abbrev pub bits : Float → ℕ
 bits x = toBits binary32 x
 
 -- a number by its pattern, and a whole number
-abbrev pattern : ℕ → Float
+abbrev pub pattern : ℕ → Float
 pattern b = ofBits binary32 b
 
-abbrev whole : ℕ → Float
+abbrev pub whole : ℕ → Float
 whole n = nearestTo n
 
-abbrev many : {A : Type 0} → ℕ → A → List A
+abbrev pub many : {A : Type 0} → ℕ → A → List A
 many zero x = []
 many (suc n) x = x ∷ many n x
 
 -- n floats whose patterns are b, b + 1, ..
-abbrev counted : ℕ → ℕ → List Float
+abbrev pub counted : ℕ → ℕ → List Float
 counted zero b = []
 counted (suc n) b = pattern b ∷ counted n (suc b)
 
@@ -151,10 +151,10 @@ raised psi energy = let r = settled (model one energy false) (state one one psi 
 -- ---- in the plane
 
 -- a particle each of whose numbers has a pattern of its own, from 1 on
-abbrev marked : List ℕ → Particle
+abbrev pub marked : List ℕ → Particle
 marked words = particleForm .make (counted 26 0x3f800000) words
 
-abbrev shown : Particle → List ℕ × List ℕ
+abbrev pub shown : Particle → List ℕ × List ℕ
 shown q = (map bits (particleForm .floatsOf q), particleForm .wordsOf q)
 
 -- ---- calls

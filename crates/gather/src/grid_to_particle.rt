@@ -1,36 +1,30 @@
 // Gather. The first half takes velocity, its gradient and psi from the nodes and moves the particles; the second settles what the host's models say of them: `gf` and `gw` give
 // for each particle its density, its energy and whether it failed.
 ghost use mathlib.Core.Path.{_≡_};
-ghost use mathlib.Core.Bool.{true, cond};
+ghost use mathlib.Core.Bool.{cond};
 ghost use mathlib.Core.List.{[], _∷_};
-ghost use Prim.Native.Nat.{ℕ, _+_, _*_, _≤_, _<_};
+ghost use Prim.Native.Nat.{_+_, _*_, _≤_, _<_};
 ghost use lib.ListN.{length};
-ghost use Rattle.packing.specs.Ids.{dim2, region, number};
 ghost use Rattle.numeric.specs.Axes.{zeros, zeroRows, identity, axes, rows};
 ghost use Rattle.numeric.specs.Bits.{none};
 ghost use Rattle.numeric.specs.Kernel.{precomputeWeights};
 ghost use Rattle.laws.specs.Store.{store, Holds};
 ghost use Rattle.laws.specs.Refusals.{settle};
-ghost use Rattle.cells.specs.Lookup.{lookup};
 ghost use Rattle.grid.specs.Answers.{refused};
 ghost use Rattle.grid.specs.Nodes.{nodeForm, regionCells};
-ghost use Rattle.grid.specs.declared.grid_node.GridNode.{GridNode};
-ghost use Rattle.particles.specs.Particles.{particleForm, particleAt, positionOf};
-ghost use Rattle.particles.specs.Table.{listed, Reached};
+ghost use Rattle.particles.specs.Particles.{particleForm, positionOf};
 ghost use Rattle.gather.specs.Transfer.{nothing, takenFrom, eroded, solidDeformed, fluidDeformed, deformed, fails, on, nodeOf, bodyOf, stateOf, takenBy, givenBy, advanced, finished};
-ghost use Rattle.gather.specs.Gather.{fromNode, taken, givenFloats, givenWords, givenAt, firstHalf, secondHalf, firstCheck, secondCheck};
+ghost use Rattle.gather.specs.Gather.{taken, givenFloats, givenWords, givenAt, firstHalf, secondHalf, firstCheck, secondCheck};
 use crate::inner::check_first_half;
 use crate::inner::check_second_half;
-use cells::Found;
+use crate::inner::node_of;
 use cells::inner::STENCIL_CELLS;
 use cells::inner::dir_to_associated_grid_node;
 use cells::inner::dpt;
 use cells::inner::nbh_shift;
 use cells::inner::weight;
 use grid::Answer;
-use grid::grid_node::CELLS_OF_REGION;
 use grid::grid_node::GridNode;
-use grid::inner::read_node;
 use numeric::dim2::Matrix;
 use numeric::dim2::Point;
 use numeric::dim2::Vector;
@@ -118,8 +112,7 @@ fn gather_particles(
     nf: &[f32],
     nw: &[u32],
 )
-    requires { ⌜ Holds particleForm (store (now pf) (now pw)) particles × Holds nodeForm (store (now nf) (now nw)) (length (now ids) * regionCells)
-        × ((p : ℕ) → p < particles → Reached «cell_width» (now ids) (particleAt (store (now pf) (now pw)) p)) ⌝ }
+    requires { ⌜ Holds particleForm (store (now pf) (now pw)) particles × Holds nodeForm (store (now nf) (now nw)) (length (now ids) * regionCells) ⌝ }
     ensures { λ _. ⌜ store (now (pf .exit)) (now (pw .exit)) ≡ firstHalf «cell_width» dt «modified_eigenerosion» (now (ids .entry)) (store (now (nf .entry)) (now (nw .entry))) particles (store (now (pf .entry)) (now (pw .entry))) ⌝ }
 {
     let mut p = 0;
@@ -138,7 +131,7 @@ fn gather_particles(
 
 // What a particle takes from the nine nodes of its stencil, in order.
 fn take(cell_width: f32, ids: &[u64], q: Particle, nf: &[f32], nw: &[u32]) -> Transfer
-    requires { ⌜ Reached «cell_width» (now ids) q × Holds nodeForm (store (now nf) (now nw)) (length (now ids) * regionCells) ⌝ }
+    requires { ⌜ Holds nodeForm (store (now nf) (now nw)) (length (now ids) * regionCells) ⌝ }
     ensures { λ r. ⌜ takenBy r ≡ taken «cell_width» (now (ids .entry)) (store (now (nf .entry)) (now (nw .entry))) (positionOf q) ⌝ }
 {
     let dir = dir_to_associated_grid_node(cell_width, q.position);
@@ -150,7 +143,8 @@ fn take(cell_width: f32, ids: &[u64], q: Particle, nf: &[f32], nw: &[u32]) -> Tr
     let mut t = zero_transfer();
     let mut k = 0;
     while k < STENCIL_CELLS {
-        t = take_from(cell_width, ids, stencil[k], dir, w, nbh_shift(k), nf, nw, t);
+        let n = node_of(ids, stencil[k], nf, nw);
+        t = add(cell_width, dir, w, nbh_shift(k), n, t);
         k += 1;
     }
     t
@@ -170,30 +164,6 @@ fn zero_transfer() -> Transfer
         psi_pos_momentum: 0.0,
         velocity_gradient_det: 0.0,
     }
-}
-
-// From one node. Its region is listed, as the check has shown.
-fn take_from(
-    cell_width: f32,
-    ids: &[u64],
-    cell_id: u64,
-    dir: Vector,
-    w: [[f32; 3]; 2],
-    shift: Cell,
-    nf: &[f32],
-    nw: &[u32],
-    t: Transfer,
-) -> Transfer
-    requires { ⌜ (listed (now ids) «cell_id» ≡ true) × (number dim2 «cell_id» < regionCells) × (w ≡ precomputeWeights (axes dir) «cell_width») × (shift .x < 3) × (shift .y < 3)
-        × Holds nodeForm (store (now nf) (now nw)) (length (now ids) * regionCells) ⌝ }
-    ensures { λ r. ⌜ takenBy r ≡ fromNode (store (now (nf .entry)) (now (nw .entry))) (lookup (now (ids .entry)) (region «cell_id»)) «cell_id» (λ (n : GridNode). takenFrom «cell_width» (axes dir) (shift .x ∷ shift .y ∷ []) (nodeOf n)) (takenBy t) ⌝ }
-{
-    let Found::At(place) = cells::lookup(ids, packing::region_of(cell_id)) else {
-        return t;
-    };
-    let k = place * CELLS_OF_REGION + packing::dim2::number_in_region(cell_id) as usize;
-    let n = read_node(nf, nw, k);
-    add(cell_width, dir, w, shift, n, t)
 }
 
 // What a particle has taken, and what one more node adds.

@@ -1,27 +1,44 @@
-// What a call of each half is refused for.
+// What a call of each half is refused for, and the nodes that a stage gathers from. No host reaches this; `node_of` demands of its caller as many nodes as the check has shown.
 ghost use mathlib.Core.Path.{_≡_};
 ghost use mathlib.Core.List.{[], _∷_};
 ghost use Prim.Native.Nat.{_*_, _≤_};
 ghost use lib.ListN.{length};
-ghost use Rattle.laws.specs.Store.{store};
+ghost use Rattle.laws.specs.Store.{store, Holds};
+ghost use Rattle.grid.specs.Nodes.{nodeForm, regionCells};
 ghost use Rattle.grid.specs.Table.{isFlag, codes, matches};
 ghost use Rattle.particles.specs.Particles.{particleFloats, particleWords};
-ghost use Rattle.gather.specs.Gather.{givenLengths, firstCheck, recordsCheck, secondCheck};
+ghost use Rattle.gather.specs.Gather.{nodeOfCell, givenLengths, firstCheck, recordsCheck, secondCheck};
 use crate::grid_to_particle::GIVEN_FLOATS;
 use crate::grid_to_particle::GIVEN_WORDS;
+use cells::Found;
 use grid::Answer;
 use grid::Rule;
+use grid::grid_node::GridNode;
 use grid::inner::check_call;
 use grid::inner::check_flags;
 use grid::inner::check_limits;
 use grid::inner::check_numbers;
+use grid::inner::empty;
 use grid::inner::first_refusal;
 use grid::inner::fits;
 use grid::inner::is_step;
 use grid::inner::is_width;
+use grid::inner::read_node;
 use particles::inner::checks::check_stage;
 use particles::inner::checks::first_particle;
 use particles::inner::checks::holds_particles;
+use particles::inner::node_place;
+
+// The node of a cell; an empty one where its region is not listed, which no accepted call asks for.
+pub fn node_of(ids: &[u64], cell_id: u64, nf: &[f32], nw: &[u32]) -> GridNode
+    requires { ⌜ Holds nodeForm (store (now nf) (now nw)) (length (now ids) * regionCells) ⌝ }
+    ensures { λ r. ⌜ r ≡ nodeOfCell (now (ids .entry)) (store (now (nf .entry)) (now (nw .entry))) «cell_id» ⌝ }
+{
+    let Found::At(k) = node_place(ids, cell_id) else {
+        return empty();
+    };
+    read_node(nf, nw, k)
+}
 
 pub(crate) fn check_first_half(
     cell_width: f32,

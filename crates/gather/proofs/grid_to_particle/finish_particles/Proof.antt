@@ -6,10 +6,10 @@ use native.Mathlib.Omega.{arith}
 use borrow.Author.Needs.{needs}
 use denote.Ref.{now}
 use Rattle.laws.specs.Store.{store, Holds}
-use Rattle.laws.specs.Hits.{run, gather}
+use Rattle.laws.specs.Hits.{run, gather, changeAt, changes}
 use Rattle.laws.proofs.Hits.{run-none, run-more}
 use Rattle.particles.specs.Particles.{particleForm, particles}
-use Rattle.gather.specs.Gather.{secondChange, changeAt, changes, secondHalf}
+use Rattle.gather.specs.Gather.{secondChange, secondHalf}
 use Rattle.gather.proofs.Gathering.{one-change}
 use Rattle.gather.proofs.grid_to_particle.finish_particles.Statement.{statement}
 use Rattle.gather.proofs.grid_to_particle.finish_particles.Tie as tie

@@ -1,17 +1,17 @@
 -- `gather::grid_to_particle::gather_particles` meets its contract: the particles below p are changed, and the others as they were.
 -- Assumes nothing.
-use mathlib.Core.Path.{_≡_, ap, _∙_}
+use mathlib.Core.Path.{_≡_, _∙_}
 use Prim.Native.Nat.{ℕ, _-_, _≤_}
 use native.Mathlib.Omega.{arith}
 use borrow.Author.Needs.{needs}
 use denote.Ref.{now}
-use Rattle.laws.specs.Store.{Store, store, Holds}
-use Rattle.laws.specs.Hits.{run, gather}
+use Rattle.laws.specs.Store.{store, Holds}
+use Rattle.laws.specs.Hits.{run, gather, changeAt, changes}
 use Rattle.laws.proofs.Hits.{run-none, run-more}
-use Rattle.particles.specs.Particles.{particleForm, particleAt, particles}
+use Rattle.particles.specs.Particles.{particleForm, particles}
 use Rattle.particles.specs.declared.particle.Particle.{Particle}
-use Rattle.gather.specs.Gather.{firstChange, changeAt, changes, firstHalf}
-use Rattle.gather.proofs.Gathering.{one-change, untouched}
+use Rattle.gather.specs.Gather.{firstChange, firstHalf}
+use Rattle.gather.proofs.Gathering.{one-change}
 use Rattle.gather.proofs.grid_to_particle.gather_particles.Statement.{statement}
 use Rattle.gather.proofs.grid_to_particle.gather_particles.Tie as tie
 
@@ -30,11 +30,7 @@ read-particle-requires : tie.Need-read-particle-requires Inv-loop μ-loop
 read-particle-requires c κs = let held = c .before .before .before .loop .inv .1 in (omega (arith, held .floats-long), omega (arith, held .words-long))
 
 take-requires : tie.Need-take-requires Inv-loop μ-loop
-take-requires c κs =
-    let l = c .before .before .before .before .loop in
-    let pre = c .before .before .before .before .before .before .before .before .before .before .pre in
-    let same = ap (λ (s : Store). particleAt s (l .p)) (l .inv .2) ∙ untouched _ _ _ (l .p) (pre .0) (omega arith) in
-    (rw (c .read-particle .ensures, same) (pre .2 (l .p) (omega arith)), pre .1)
+take-requires c κs = c .before .before .before .before .before .before .before .before .before .before .pre .1
 
 write-particle-requires : tie.Need-write-particle-requires Inv-loop μ-loop
 write-particle-requires c κs = let held = c .before .before .before .before .before .before .before .before .loop .inv .1 in (omega (arith, held .floats-long), omega (arith, held .words-long))

@@ -5,7 +5,7 @@ use borrow.Author.Needs.{needs}
 use Rattle.laws.proofs.Refusals.{settle-old}
 use Rattle.grid.specs.Answers.{refused}
 use Rattle.grid.proofs.Answers.{stops}
-use Rattle.gather.proofs.Checking.{first-ready}
+use Rattle.gather.proofs.Checking.{first-held}
 use Rattle.gather.proofs.grid_to_particle.grid_to_particle_first_half.Statement.{statement}
 use Rattle.gather.proofs.grid_to_particle.grid_to_particle_first_half.Tie as tie
 
@@ -13,9 +13,7 @@ returns : tie.Need-returns
 returns c = (c .before .before .check-first-half .ensures, settle-old _ _ _ (stops (c .before .before .check-first-half .result) (c .before .match .keys2)))
 
 gather-particles-requires : tie.Need-gather-particles-requires
-gather-particles-requires c κs =
-    let r = first-ready _ _ _ _ _ _ _ _ _ _ (ap refused (sym (c .before .before .before .before .check-first-half .ensures) ∙ c .before .before .enum-told .given .1)) in
-    (r .particles-held, r .nodes-held, r .stencils)
+gather-particles-requires c κs = first-held _ _ _ _ _ _ _ _ _ _ (ap refused (sym (c .before .before .before .before .check-first-half .ensures) ∙ c .before .before .enum-told .given .1))
 
 returns-2 : tie.Need-returns-2
 returns-2 c = (sym (c .before .before .before .before .before .before .before .enum-told .given .1) ∙ c .before .before .before .before .before .before .before .before .before .check-first-half .ensures, c .before .before .before .before .gather-particles .ensures)
