@@ -1,0 +1,2 @@
+pub mod Fluids
+pub mod Values
