@@ -16,13 +16,16 @@ use Rattle.grid.specs.declared.Answer.{Answer}
 use Rattle.grid.specs.declared.Answer.the-variants.{Done, Refused}
 use Rattle.grid.proofs.Emptying as Emptying
 use Rattle.grid.proofs.Lengths.{clear-held}
+use Rattle.scatter.specs.Hit.{changed}
 use Rattle.scatter.specs.Scatter.{scattered, regionScattered, placeCheck, scatterCheck}
 use Rattle.scatter.proofs.Checking.{ready, region-ready}
 use Rattle.scatter.proofs.Scattering.{scatter-laws, region-laws}
 use Rattle.update.specs.Update.{updated, updateCheck, Zero}
 use Rattle.update.proofs.Updating as Updating
-use Rattle.solver.specs.Clearing.{Call, Scatter, answer, made, left, after, stencilId, nodeId, Reaches, Reached, stepCheck, stepped, EmptyElsewhere, Demand2}
-use Rattle.solver.specs.Clearing.Call.{clearing, scattering, scatteringRegion, scatteringInOrder, updating, inTurn, gatheringFirst, gatheringSecond}
+use Rattle.fluids.specs.Fluids.{nodesAfter, fluidsCheck}
+use Rattle.fluids.proofs.Recomputing as Recomputing
+use Rattle.solver.specs.Clearing.{Call, Scatter, Fluids, answer, made, left, after, stencilId, nodeId, Reaches, Reached, stepCheck, stepped, EmptyElsewhere, Demand2}
+use Rattle.solver.specs.Clearing.Call.{clearing, scattering, scatteringRegion, scatteringInOrder, updating, inTurn, gatheringFirst, gatheringSecond, recomputing}
 use Rattle.solver.proofs.Missing.{missed, region-missed}
 use Rattle.solver.proofs.Stepping.{counted, apart-done, step-done}
 use Rattle.solver.proofs.Turning.{turned}
@@ -50,14 +53,25 @@ module _ (ids : List ℕ) (r c : ℕ) (l : r < length ids) (u : c < regionCells)
   unfolding scattered
   kept-scatter g s kept e other =
       let q = ready Done (g .h) (g .dt) (g .gravity) (g .regions) ids (g .ranges) (g .count) (g .particles) (s .floats) (s .words) (ap refused e) in
-      let laws = scatter-laws (g .h) (g .dt) (g .gravity) ids (g .ranges) (g .particles) s (q .ready) in
-      let miss = missed (g .h) (g .dt) (g .gravity) ids (g .ranges) (g .particles) s (q .ready) r c u (λ p k v. other p k (omega (arith, v, q .particles-long, q .ready .particles-held .floats-long))) in
+      let laws = scatter-laws (g .h) (changed (g .h) (g .dt) (g .gravity)) ids (g .ranges) (g .particles) s (q .ready) in
+      let miss = missed (g .h) (changed (g .h) (g .dt) (g .gravity)) ids (g .ranges) (g .particles) s (q .ready) r c u (λ p k v. other p k (omega (arith, v, q .held .floats-long, q .ready .particles-held .floats-long))) in
       record { held = laws .held; zero = subst Zero (sym (laws .untouched (r * regionCells + c) miss)) (kept .zero) }
 
   kept-update : (h dt : Float) (code locks count : ℕ) (colliders : List Float) (projections s : Store) → Kept s → Kept (updated h dt code locks ids count colliders projections s)
   kept-update h dt code locks count colliders projections s kept =
       let laws = Updating.laws h dt code locks ids count colliders projections s (kept .held) in
       record { held = laws .held; zero = laws .zero-stays r c l u (kept .zero) }
+
+  -- fluids leave every node as it was but for its mass, which is +0
+  kept-fluids : (g : Fluids) (s : Store) → Kept s → fluidsCheck (g .h) (g .regions) ids (g .ranges) (g .count) (g .particles) (length (s .floats)) (length (s .words)) ≡ Done
+      → Kept (nodesAfter (g .h) ids (g .ranges) (g .count) (g .particles) s)
+  kept-fluids g s kept e =
+      let q = Recomputing.ready (g .h) (g .regions) ids (g .ranges) (g .count) (g .particles) (s .floats) (s .words) (ap refused e) in
+      let laws = Recomputing.laws (g .h) (g .regions) ids (g .ranges) (g .count) (g .particles) s q in
+      record {
+        held = laws .nodes-held;
+        zero = subst Zero (sym (laws .nodes-left (r * regionCells + c) (omega (arith, l, u)))) (record { mass = refl; momentum = kept .zero .momentum; velocity = kept .zero .velocity });
+      }
 
 -- what is asked of the nodes' lengths alone holds of as many other nodes
 other-nodes : (check : ℕ → ℕ → Answer) (s t : Store) (n : ℕ) → Holds nodeForm s n → Holds nodeForm t n
@@ -101,7 +115,7 @@ module _ (h dt : Float) (gravity : List Float) (code locks regions : ℕ) (ids r
   full-room : Holds nodeForm full places
   unfolding scattered
   full-room =
-      scatter-laws h dt gravity ids ranges particles empty
+      scatter-laws h (changed h dt gravity) ids ranges particles empty
       (ready Done h dt gravity regions ids ranges count particles (empty .floats) (empty .words) (ap refused scatter-done) .ready) .held
 
   update-done : updateCheck h dt code locks regions ids colliders frictions projections (length (full .floats)) (length (full .words)) ≡ Done
@@ -143,8 +157,8 @@ module _ (ids : List ℕ) (r c : ℕ) (l : r < length ids) (u : c < regionCells)
       kept-scatter ids r c l u g s kept e (λ p k v w i. other (record { accepted = e; particle = p; shift = k; served = v; within = w; there = i }))
   kept-made (scatteringRegion place g) s kept e other =
       let q = region-ready place (placeCheck place (g .regions)) Done (g .h) (g .dt) (g .gravity) (g .regions) ids (g .ranges) (g .count) (g .particles) (s .floats) (s .words) refl (sym e) refl in
-      let laws = region-laws (g .h) (g .dt) (g .gravity) ids (g .ranges) (g .particles) s (q .1 .ready) place (q .0) in
-      let miss = region-missed (g .h) (g .dt) (g .gravity) ids (g .ranges) (g .particles) place r c u
+      let laws = region-laws (g .h) (changed (g .h) (g .dt) (g .gravity)) ids (g .ranges) (g .particles) s (q .1 .ready) place (q .0) in
+      let miss = region-missed (g .h) (changed (g .h) (g .dt) (g .gravity)) ids (g .ranges) (g .particles) place r c u
       (λ p k v w x i. other (record { accepted = e; particle = p; shift = k; served = (v, w); within = x; there = i })) in
       record { held = laws .held; zero = subst Zero (sym (laws .untouched (r * regionCells + c) miss)) (kept .zero) }
   kept-made (scatteringInOrder order g) s kept e other =
@@ -157,6 +171,7 @@ module _ (ids : List ℕ) (r c : ℕ) (l : r < length ids) (u : c < regionCells)
       (λ p k v w i. other (record { accepted = e; particle = p; shift = k; served = v; within = w; there = i }))
   kept-made (gatheringFirst g) s kept e other = kept
   kept-made (gatheringSecond g) s kept e other = kept
+  kept-made (recomputing g) s kept e other = kept-fluids ids r c l u g s kept e
 
   -- refused or not
   kept-left : (call : Call) (s : Store) → Kept ids r c l u s → (Reaches ids s call (nodeId ids r c) → ⊥) → Kept ids r c l u (left ids call s)

@@ -12,6 +12,7 @@ use Rattle.laws.proofs.Orders.{laws}
 use Rattle.grid.specs.Answers.{refused}
 use Rattle.grid.specs.Nodes.{nodes, regionCells, stores}
 use Rattle.grid.specs.declared.Answer.the-variants.{Done}
+use Rattle.scatter.specs.Hit.{changed}
 use Rattle.scatter.specs.Scatter.{colours, regionHits, colouredHits, colourHits, scatterHits, scattered, regionScattered, scatterCheck}
 use Rattle.scatter.proofs.Checking.{ready}
 use Rattle.scatter.proofs.Reaching.{Hit-by, by-region, within-list, apart}
@@ -21,11 +22,11 @@ use Rattle.solver.proofs.Turning.{turning, let-through, region-accepted
 -- ---- the calls, one after the other, are their regions' hits
 
 module _ (h dt : Float) (gravity : List Float) (ids ranges : List ℕ) (particles : Store) (order : List ℕ) where
-  gathered : (n : ℕ) (s : Store) → inOrder h dt gravity ids ranges particles order n s ≡ run nodes (gather (λ i. regionHits h dt gravity ids ranges particles (placeAt order i)) n) s
+  gathered : (n : ℕ) (s : Store) → inOrder h dt gravity ids ranges particles order n s ≡ run nodes (gather (λ i. regionHits h (changed h dt gravity) ids ranges particles (placeAt order i)) n) s
   unfolding inOrder regionScattered
-  gathered zero s = run-none nodes (λ i. regionHits h dt gravity ids ranges particles (placeAt order i)) s
+  gathered zero s = run-none nodes (λ i. regionHits h (changed h dt gravity) ids ranges particles (placeAt order i)) s
   gathered (suc n) s =
-      rw add-one at (run-more nodes (λ i. regionHits h dt gravity ids ranges particles (placeAt order i)) n s (gathered n s) refl)
+      rw add-one at (run-more nodes (λ i. regionHits h (changed h dt gravity) ids ranges particles (placeAt order i)) n s (gathered n s) refl)
 
 pub same-bits : (order : List ℕ) (h dt : Float) (gravity : List Float) (regions : ℕ) (ids ranges : List ℕ) (count : ℕ) (particles s : Store)
     → scatterCheck Done h dt gravity regions ids ranges count particles (length (s .floats)) (length (s .words)) ≡ Done
@@ -37,9 +38,9 @@ same-bits order h dt gravity regions ids ranges count particles s accepted long 
     let n : length order ≡ length ids = long ∙ sym (r .counted) in
     gathered h dt gravity ids ranges particles order (length order) s
     ∙ rw n
-    (laws nodes .in-turn (colourAt ids) (placeAt order) (regionHits h dt gravity ids ranges particles) (Hit-by h dt gravity ids ranges particles s (r .ready)) colours (length ids)
+    (laws nodes .in-turn (colourAt ids) (placeAt order) (regionHits h (changed h dt gravity) ids ranges particles) (Hit-by h (changed h dt gravity) ids ranges particles s (r .ready)) colours (length ids)
     (length ids * regionCells) s (turning ids order e n) (stores s (length ids * regionCells) .0 (r .ready .nodes-held))
-    (within-list h dt gravity ids ranges particles s (r .ready)) (by-region h dt gravity ids ranges particles s (r .ready)) (apart h dt gravity ids ranges particles s (r .ready)))
+    (within-list h (changed h dt gravity) ids ranges particles s (r .ready)) (by-region h (changed h dt gravity) ids ranges particles s (r .ready)) (apart h (changed h dt gravity) ids ranges particles s (r .ready)))
 
 pub demand3 : Demand3
 demand3 = record { turn = λ ids order n e. turning ids order e n; every-turn = let-through; same-bits = same-bits; each-accepted = region-accepted }

@@ -24,6 +24,7 @@ use Rattle.particles.specs.Table.{particleLengths, firstParticle, placed}
 use Rattle.scatter.specs.Scatter.{scattered, regionScattered, placeCheck, scatterCheck}
 use Rattle.update.specs.Update.{colliderFloats, projectionFloats, updated, projectionLengths, ownCheck, updateCheck, Zero}
 use Rattle.gather.specs.Gather.{firstCheck, secondCheck}
+use Rattle.fluids.specs.Fluids.{nodesAfter, fluidsCheck}
 use Rattle.solver.specs.Order.{orderCheck}
 
 -- ---- clear, scatter, update, in this order
@@ -99,6 +100,14 @@ pub record GatherSecond : Type 0 where
   pub particles : Store
   pub given : Store
 
+-- what fluids' volumes are given beside them
+pub record Fluids : Type 0 where
+  pub h : Float
+  pub regions : ℕ
+  pub ranges : List ℕ
+  pub count : ℕ
+  pub particles : Store
+
 pub data Call : Type 0 where
   clearing : ℕ → Call
   scattering : Scatter → Call
@@ -110,6 +119,8 @@ pub data Call : Type 0 where
   -- nodes to particles, two halves
   gatheringFirst : GatherFirst → Call
   gatheringSecond : GatherSecond → Call
+  -- fluids' volumes
+  recomputing : Fluids → Call
 
 module _ (ids : List ℕ) where
   -- what a call answers, by its contract
@@ -124,6 +135,7 @@ module _ (ids : List ℕ) where
       stepCheck (c .h) (c .dt) (c .gravity) code locks (c .regions) ids (c .ranges) (c .count) (c .particles) count colliders projections (length (s .floats)) (length (s .words))
   answer (gatheringFirst c) s = firstCheck (c .h) (c .dt) (c .modified) (c .regions) ids (c .ranges) (c .count) (c .particles) (length (s .floats)) (length (s .words))
   answer (gatheringSecond c) s = secondCheck (c .count) (c .particles) (c .given)
+  answer (recomputing c) s = fluidsCheck (c .h) (c .regions) ids (c .ranges) (c .count) (c .particles) (length (s .floats)) (length (s .words))
 
   -- what it makes of the nodes where it is not refused; gather reads the nodes and changes none: its contract lends them by `&`
   abbrev pub made : Call → Store → Store
@@ -135,6 +147,7 @@ module _ (ids : List ℕ) where
   made (inTurn c code locks count colliders projections) s = stepped (c .h) (c .dt) (c .gravity) code locks (c .regions) ids (c .ranges) (c .count) (c .particles) count colliders projections s
   made (gatheringFirst c) s = s
   made (gatheringSecond c) s = s
+  made (recomputing c) s = nodesAfter (c .h) ids (c .ranges) (c .count) (c .particles) s
 
   -- what it leaves, refused or not
   unfoldable pub left : Call → Store → Store
@@ -154,7 +167,7 @@ stencilId h particles p k = sum dim2 (cellAssociatedToPoint dim2 h (positionOf (
 abbrev pub nodeId : List ℕ → ℕ → ℕ → ℕ
 nodeId ids r c = cellOf dim2 (getD ids r 0) c
 
--- whether a call takes the particle p to the nodes; gather goes from the nodes to the particles
+-- whether a call takes the particle p to the nodes and leaves something there; gather goes from the nodes to the particles, and fluids take their mass off again
 abbrev pub Served : Call → ℕ → Type 0
 Served (clearing regions) p = ⊥
 Served (scattering c) p = p < c .count
@@ -164,6 +177,7 @@ Served (updating c) p = ⊥
 Served (inTurn c code locks count colliders projections) p = p < c .count
 Served (gatheringFirst c) p = ⊥
 Served (gatheringSecond c) p = ⊥
+Served (recomputing c) p = ⊥
 
 -- the id that it takes a particle to by a shift; one that serves no particle takes none anywhere
 abbrev pub idOf : Call → ℕ → ℕ → ℕ
@@ -175,6 +189,7 @@ idOf (updating c) p k = 0
 idOf (inTurn c code locks count colliders projections) p k = stencilId (c .h) (c .particles) p k
 idOf (gatheringFirst c) p k = 0
 idOf (gatheringSecond c) p k = 0
+idOf (recomputing c) p k = 0
 
 -- an accepted call takes a particle to the id
 pub record Reaches (ids : List ℕ) (s : Store) (call : Call) (id : ℕ) : Type 0 where
