@@ -1,4 +1,5 @@
--- What crosses the boundary in another form than it has inside: a flag as 1 or 0, a signed number by its bits, a place with a flag, an answer by its number and its index.
+-- What crosses the boundary in another form than it has inside: a flag as 1 or 0, a signed number by its bits, a place with a flag, an answer by its number and its
+-- index, the lengths of substeps by number and values.
 -- Assumes nothing.
 use mathlib.Core.Path.{_≡_, ap, sym, _∙_}
 use mathlib.Core.Bool.{Bool, cond}
@@ -11,6 +12,9 @@ use Rattle.laws.specs.Refusals.{settle}
 use Rattle.cells.specs.declared.Found.{Found}
 use Rattle.grid.specs.Answers.{numberOf, indexOf, refused}
 use Rattle.grid.specs.declared.Answer.{Answer}
+use Rattle.lengths.specs.Lengths.{stepNumber, stepIndex, stepCount, stepRemaining, stepEnd, substepNumber, substepIndex, substepLength, substepRemaining}
+use Rattle.lengths.specs.declared.Lengths.{Lengths}
+use Rattle.lengths.specs.declared.Substep.{Substep}
 use Rattle.boundary.specs.Crossing.{foundFlag, foundPlace}
 
 -- The answer was right and is the branch that was taken, so the number of the branch is the number of what is right.
@@ -29,3 +33,12 @@ placed e t = (ap foundFlag (sym t ∙ e), ap foundPlace (sym t ∙ e))
 pub answered : {S : Type 0} {answer right : Answer} {number index : ℕ} {left : S} (old new : S) → (answer ≡ right) × (left ≡ settle (refused answer) old new)
     → (number ≡ numberOf answer) × (index ≡ indexOf answer) → (number ≡ numberOf right) × (index ≡ indexOf right) × (left ≡ settle (refused right) old new)
 answered old new (e, l) (n, i) = (n ∙ ap numberOf e, i ∙ ap indexOf e, l ∙ ap (λ (a : Answer). settle (refused a) old new) e)
+
+-- The same of the lengths of a step and of one substep, value by value.
+pub stepped : {answer right case : Lengths} → answer ≡ right → answer ≡ case
+    → (stepNumber case ≡ stepNumber right) × (stepIndex case ≡ stepIndex right) × (stepCount case ≡ stepCount right) × (stepRemaining case ≡ stepRemaining right) × (stepEnd case ≡ stepEnd right)
+stepped e t = let s = sym t ∙ e in (ap stepNumber s, ap stepIndex s, ap stepCount s, ap stepRemaining s, ap stepEnd s)
+
+pub substepped : {answer right case : Substep} → answer ≡ right → answer ≡ case
+    → (substepNumber case ≡ substepNumber right) × (substepIndex case ≡ substepIndex right) × (substepLength case ≡ substepLength right) × (substepRemaining case ≡ substepRemaining right)
+substepped e t = let s = sym t ∙ e in (ap substepNumber s, ap substepIndex s, ap substepLength s, ap substepRemaining s)
