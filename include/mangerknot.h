@@ -6,10 +6,10 @@
  *
  * Pointers: behind each stands the count of the entries (not bytes) that it points to; it may be NULL only with a count of 0. A
  * function stays within those entries and keeps no pointer. Only mk_clear2, the scatters, mk_grid_update2 and
- * mk_clear_scatter_update2 write to any, to nodes, and the two halves of gather, to particles, and only where they answer 0. That a
- * pointer is valid and aligned for so many entries, and that entries which are written (those without const) overlap no others of the
- * same call, nobody can check behind the call: it is for the caller to see to. The compiler passes the place of a long answer by a
- * pointer of its own making, which is right where the caller includes this file.
+ * mk_clear_scatter_update2 write to any, to nodes, the two halves of gather, to particles, and mk_recompute_fluids_volumes2, to both, and
+ * only where they answer 0. That a pointer is valid and aligned for so many entries, and that entries which are written (those without
+ * const) overlap no others of the same call, nobody can check behind the call: it is for the caller to see to. The compiler passes the
+ * place of a long answer by a pointer of its own making, which is right where the caller includes this file.
  *
  * Floats: every NaN is taken, and an answered NaN may have any NaN's pattern; mk_to_bits gives every NaN the pattern 7FC00000. Lent
  * NaNs keep their patterns where a call refuses: that is tested and not proved.
@@ -271,6 +271,55 @@ mk_refusal mk_grid_to_particle_first_half2(float cell_width, float dt, uint32_t 
 mk_refusal mk_grid_to_particle_second_half2(size_t particles, float *particle_floats, size_t particle_floats_len,
                                             uint32_t *particle_words, size_t particle_words_len, const float *given_floats,
                                             size_t given_floats_len, const uint32_t *given_words, size_t given_words_len);
+
+/* ---- Fluids: volumes from masses ---- */
+
+/*
+ * Particles and ranges are as in mk_particle_to_grid_scatter2, nodes as in mk_clear2, and read as they are: what mass they hold counts, so
+ * that a host clears them first. Refuses 1 to 10, of which 3 is for the cell width and 4 for the particles' words alone.
+ *
+ * Every particle, a solid too, adds to the mass of the nine nodes of its stencil, in the order of mk_particle_to_grid_scatter2. Then every
+ * fluid's mass is divided by the density that the nodes of its stencil have for it, their weighted masses over the cell's area, and the
+ * volume that this gives, over the initial volume, becomes F's first entry, whatever it is: a NaN or an infinity is stored as it is, and
+ * refused when it comes back. At last the mass of every listed node becomes +0. All other fields keep every bit.
+ */
+mk_refusal mk_recompute_fluids_volumes2(float cell_width, size_t regions, const uint64_t *ids, size_t ids_len, const uint64_t *ranges,
+                                        size_t ranges_len, size_t particles, float *particle_floats, size_t particle_floats_len,
+                                        uint32_t *particle_words, size_t particle_words_len, float *node_floats, size_t node_floats_len,
+                                        uint32_t *node_words, size_t node_words_len);
+
+/* ---- Lengths: how a step is cut into substeps ---- */
+
+/*
+ * What became of a step: number and index as in mk_refusal, how many substeps it took, what remains of its total, and the end that it came
+ * to: 0 nothing remains, 1 one substep was done and no more asked for, 2 no proposal is left. Where the number is not 0, the last three are
+ * 0.
+ */
+typedef struct { uint32_t number; size_t index; size_t count; float remaining; uint32_t end; } mk_lengths;
+
+/* One substep: number and index as in mk_refusal, its length, and what remains after it. Where the number is not 0, these two are +0. */
+typedef struct { uint32_t number; size_t index; float length; float remaining; } mk_taken_substep;
+
+/*
+ * The lengths of a step from what a host proposes for each substep. As long as more than 0 remains, the next proposal is taken. It has to be
+ * above 0, and at most what remains and at most max_substep_dt; where it is below the least length, mk_min_dt, and more than that remains,
+ * the substep is that long instead, even beyond max_substep_dt. Before each substep the ends are looked at, in their order; so a single
+ * substep that finishes is 0, and proposals behind an end are not looked at. A total of 0 or less remains as it is, with a count of 0.
+ * max_num_substeps makes the least length and bounds no count. dts has as many entries as there are proposals, with no limit.
+ *
+ * Refuses 1; 3, where the total or max_substep_dt is not finite (either may be 0 or less); and 4: with index 0 where max_num_substeps is 0
+ * or stop_after_one_substep neither 0 nor 1, and after these with a proposal's index where it breaks its rule, as a NaN does.
+ */
+mk_lengths mk_step_lengths(float total, float max_substep_dt, uint32_t max_num_substeps, uint32_t stop_after_one_substep,
+                           size_t proposals, const float *dts, size_t dts_len);
+/*
+ * One such substep, for a host who proposes one at a time: of what remains, the least length, max_substep_dt and the proposal. A loop of
+ * these over what is left each time, as long as that is above 0, leaves what mk_step_lengths answers. Refuses, with index 0, 3, where one
+ * of the first three is not finite, and 4, where the proposal breaks its rule; so it is 4 where nothing remains.
+ */
+mk_taken_substep mk_substep(float remaining_time, float min_dt, float max_substep_dt, float dt);
+/* The least length: total over the float nearest to max_num_substeps. Refuses nothing; of 0 it is what the division gives. */
+float mk_min_dt(float total, uint32_t max_num_substeps);
 
 #ifdef __cplusplus
 }

@@ -288,6 +288,69 @@ static void refused_gathers(void) {
     EXPECT(refused.number == 0 && refused.index == 0);
 }
 
+/* A fluid of mass 4 and initial volume 2, half way between cells, beside a solid of the same place and mass, over nodes of mass 1. */
+static void fluids(void) {
+    const uint64_t two[2] = {0, 2};
+    float pair[52] = {0}, nodes[112], kept[52];
+    uint32_t words[8] = {0, 0, 1, 0}, node_words[16];
+    for (int k = 0; k < 2; k++) {
+        pair[26 * k] = pair[26 * k + 1] = 1.5f;
+        pair[26 * k + 12] = 4;
+        pair[26 * k + 13] = 2;
+        pair[26 * k + 17] = pair[26 * k + 20] = 7;
+    }
+    for (int k = 0; k < 112; k++) {
+        nodes[k] = k % 7 == 0 ? 1 : 3;
+    }
+    memset(node_words, 0xa5, sizeof node_words);
+    memcpy(kept, pair, sizeof pair);
+    mk_refusal refused = mk_recompute_fluids_volumes2(NAN, 1, region, 1, two, 2, 2, pair, 52, words, 8, nodes, 112, node_words, 16);
+    EXPECT(refused.number == 3 && refused.index == 0 && nodes[0] == 1 && memcmp(pair, kept, sizeof pair) == 0);
+    mk_refusal done = mk_recompute_fluids_volumes2(1.0f, 1, region, 1, two, 2, 2, pair, 52, words, 8, nodes, 112, node_words, 16);
+    EXPECT(done.number == 0 && done.index == 0);
+    EXPECT(pair[17] == 4.0f / 3.0f / 2.0f);
+    pair[17] = 7;
+    EXPECT(memcmp(pair, kept, sizeof pair) == 0 && words[2] == 1 && words[6] == 0);
+    for (int k = 0; k < 112; k++) {
+        EXPECT(nodes[k] == (k % 7 == 0 ? 0.0f : 3.0f) && !signbit(nodes[k]));
+    }
+    EXPECT(node_words[0] == 0xa5a5a5a5 && node_words[15] == 0xa5a5a5a5);
+    done = mk_recompute_fluids_volumes2(1.0f, 0, NULL, 0, NULL, 0, 0, NULL, 0, NULL, 0, NULL, 0, NULL, 0);
+    EXPECT(done.number == 0 && done.index == 0);
+}
+
+static void lengths(void) {
+    const float dts[4] = {0.125f, 0.5f, 0.25f, NAN};
+    mk_lengths finished = mk_step_lengths(1.0f, 0.5f, 4, 0, 4, dts, 4), one = mk_step_lengths(1.0f, 0.5f, 4, 1, 4, dts, 4);
+    mk_lengths left = mk_step_lengths(1.0f, 0.5f, 4, 0, 2, dts, 2), none = mk_step_lengths(-2.5f, 0.5f, 4, 0, 0, NULL, 0);
+    EXPECT(finished.number == 0 && finished.index == 0 && finished.count == 3 && finished.remaining == 0.0f && finished.end == 0);
+    EXPECT(one.number == 0 && one.count == 1 && one.remaining == 0.75f && one.end == 1);
+    EXPECT(left.number == 0 && left.count == 2 && left.remaining == 0.25f && left.end == 2);
+    EXPECT(none.number == 0 && none.count == 0 && none.remaining == -2.5f && none.end == 0);
+    mk_lengths refused = mk_step_lengths(2.0f, 0.5f, 8, 0, 4, dts, 4);
+    EXPECT(refused.number == 4 && refused.index == 3 && refused.count == 0 && refused.remaining == 0.0f && refused.end == 0);
+    refused = mk_step_lengths(1.0f, 0.5f, 4, 2, 4, dts, 4);
+    EXPECT(refused.number == 4 && refused.index == 0);
+    EXPECT(mk_step_lengths(1.0f, 0.5f, 4, 0, 3, dts, 4).number == 1);
+    EXPECT(mk_step_lengths(INFINITY, 0.5f, 4, 0, 4, dts, 4).number == 3);
+}
+
+/* The same by a loop of one's own. */
+static void substeps(void) {
+    const float dts[3] = {0.125f, 0.5f, 0.25f}, taken[3] = {0.25f, 0.5f, 0.25f};
+    float remaining = 1.0f, least = mk_min_dt(1.0f, 4);
+    EXPECT(least == 0.25f && mk_min_dt(1.0f, 16777217) == mk_min_dt(1.0f, 16777216));
+    for (int k = 0; k < 3; k++) {
+        mk_taken_substep substep = mk_substep(remaining, least, 0.5f, dts[k]);
+        EXPECT(substep.number == 0 && substep.index == 0 && substep.length == taken[k]);
+        remaining = substep.remaining;
+    }
+    EXPECT(remaining == 0.0f);
+    mk_taken_substep refused = mk_substep(remaining, least, 0.5f, 0.5f);
+    EXPECT(refused.number == 4 && refused.index == 0 && refused.length == 0.0f && refused.remaining == 0.0f);
+    EXPECT(mk_substep(1.0f, NAN, 0.5f, 0.5f).number == 3);
+}
+
 int main(void) {
     ids_in_2d();
     ids_in_3d();
@@ -305,5 +368,8 @@ int main(void) {
     build_flow();
     gathers();
     refused_gathers();
+    fluids();
+    lengths();
+    substeps();
     return wrong;
 }

@@ -17,6 +17,8 @@ mod stand_ins;
 pub mod colliders;
 #[cfg(feature = "dim2")]
 mod given;
+#[cfg(feature = "dim2")]
+pub mod lengths;
 pub mod math;
 
 #[cfg(feature = "dim2")]

@@ -1,14 +1,16 @@
-//! The handed-over scatter, update and gather on the records that the port is lent, in two dimensions. What the Rust would find out by
-//! sorting (regions, their particles, the particles' order) is set from the port's lists, and so is what shapes and models would answer.
+//! The handed-over scatter, update, gather and recomputation of fluids on the records that the port is lent, in two dimensions. What the
+//! Rust would find out by sorting (regions, their particles, the particles' order) is set from the port's lists, and so is what shapes and
+//! models would answer.
 
 use crate::colliders::{Collider, ColliderSet};
-use crate::dynamics::solver::{BoundaryHandling, DamageModel, MlsSolver, RigidWorld, SimulationDofs};
+use crate::dynamics::solver::{BoundaryHandling, DamageModel, MlsSolver, MpmHooks, RigidWorld, SimulationDofs, SolverParameters};
 use crate::dynamics::{GridNode, GridNodeFlags, Particle, ParticleModelHandle, ParticleModelSet, ParticleSet};
 use crate::geometry::{way_in, SpGrid};
 use crate::given::{self, Between, Host, Numbers};
 use crate::math::{Matrix, Real, SMatrix, Vector};
 use crate::query::PointProjection;
 use crate::MmapMut;
+use samples::lengths::Step;
 use samples::particle::*;
 use samples::substeps::Substep;
 use samples::{
@@ -89,17 +91,30 @@ impl Scene {
         scene.particles()
     }
 
-    /// A whole substep, whose gather is one call with the host in its midst: the nodes after the update, the particles after the first
-    /// half and those after the second.
-    pub fn substep(substep: &Substep) -> [Records; 3] {
+    /// The particles and the nodes that a recomputation of fluids' volumes leaves.
+    pub fn recomputed(call: &Call) -> [Records; 2] {
+        let mut scene = Scene::new(call, MmapMut::sparse());
+        scene.recompute_fluids();
+        [scene.particles(), scene.nodes()]
+    }
+
+    /// A whole substep, whose gather is one call with the host in its midst: what each of the substep's stages leaves, nodes or particles.
+    pub fn substep(substep: &Substep) -> Vec<Records> {
         let mut scene = Scene::new(&substep.call, MmapMut::sparse());
+        let mut found = vec![];
         scene.clear();
+        if substep.recomputes {
+            found.push(scene.nodes());
+            scene.recompute_fluids();
+            found.push(scene.particles());
+        }
         scene.scatter();
         scene.update();
-        let nodes = scene.nodes();
+        found.push(scene.nodes());
         scene.host(&substep.rewritten);
         scene.gather();
-        [nodes, scene.left(), scene.particles()]
+        found.extend([scene.left(), scene.particles()]);
+        found
     }
 
     /// The scene of a call to the second half of gather, which has no positions and no nodes to go by. Its first half has particles at
@@ -124,7 +139,7 @@ impl Scene {
     }
 
     /// Lets a host in between the halves, who has an F of his own for some of the particles.
-    fn host(&mut self, rewritten: &[Option<[u32; 4]>]) {
+    pub fn host(&mut self, rewritten: &[Option<[u32; 4]>]) {
         let matrix = |bits: &[u32; 4]| by_rows(&bits.map(Real::from_bits));
         self.let_in(Host::Rewrites(rewritten.iter().map(|rewritten| rewritten.as_ref().map(matrix)).collect()));
     }
@@ -159,6 +174,29 @@ impl Scene {
         let rigid_world = RigidWorld { colliders: &self.colliders };
         let Scene { damage_model, dt, grid, particles, models, .. } = self;
         MlsSolver::grid_to_particle(*damage_model, false, *dt, &rigid_world, grid, particles, models);
+    }
+
+    pub fn recompute_fluids(&mut self) {
+        MlsSolver::recompute_fluids_volumes(&mut self.grid, &mut self.particles, &self.models);
+    }
+
+    /// A step of the Rust's, which sorts the particles by itself before each of its substeps, and recomputes fluids' volumes or not.
+    pub fn step(&mut self, step: &Step, recomputes: bool, hooks: &mut dyn MpmHooks) -> Real {
+        let Scene { gravity, grid, particles, models, damage_model, boundary_handling, simulation_dofs, .. } = self;
+        let params = SolverParameters {
+            dt: step.total,
+            max_substep_dt: step.max_substep_dt,
+            max_num_substeps: step.max_num_substeps,
+            stop_after_one_substep: step.stop_after_one_substep != 0,
+            force_fluids_volume_recomputation: recomputes,
+            enable_boundary_particle_projection: false,
+            damage_model: *damage_model,
+            boundary_handling: *boundary_handling,
+            simulation_dofs: *simulation_dofs,
+        };
+        let rigid_world = RigidWorld { colliders: &self.colliders };
+        let mut grid_phase = way_in::over(grid.cell_width(), MmapMut::sparse());
+        MlsSolver::step(&params, gravity, &rigid_world, grid, &mut grid_phase, particles, models, hooks)
     }
 
     /// The particles, as the port has them.

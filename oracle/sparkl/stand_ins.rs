@@ -149,8 +149,8 @@ pub mod data {
     }
 }
 
-/// For `sparkl2d_core`: the settings of an update and of a gather; and what models say to a graphics card or to whoever chooses a
-/// substep's length, which nothing here asks, so that there are no values of it.
+/// For `sparkl2d_core`: the settings of an update, of a gather and of a step; and what models say to a graphics card or to whoever
+/// chooses a substep's length, which nothing here asks, so that there are no values of it.
 pub mod core {
     #[cfg(feature = "dim2")]
     pub mod dynamics {
@@ -176,6 +176,19 @@ pub mod core {
                     const LOCK_X = 1 << 0;
                     const LOCK_Y = 1 << 1;
                 }
+            }
+
+            /// Those of its fields that a step asks.
+            pub struct SolverParameters {
+                pub dt: crate::math::Real,
+                pub max_substep_dt: crate::math::Real,
+                pub max_num_substeps: u32,
+                pub stop_after_one_substep: bool,
+                pub force_fluids_volume_recomputation: bool,
+                pub enable_boundary_particle_projection: bool,
+                pub damage_model: DamageModel,
+                pub boundary_handling: BoundaryHandling,
+                pub simulation_dofs: SimulationDofs,
             }
         }
     }

@@ -1,5 +1,6 @@
 //! What the handed-over Rust has no function for, as documents 01 and 02 say it, and nothing that is taken from the port.
 
+use samples::lengths::{Step, Taken, FINISHED, NONE_LEFT, ONE_DONE};
 use samples::{plane, Boundary, Call, Gather};
 
 /// Document 02, request 09: the lower part of a list has the floor of half of it, the upper part is kept if its first id is at
@@ -118,9 +119,13 @@ fn regions_and_particles_are_few(call: &Call) -> bool {
     call.regions <= MOST_REGIONS && call.particles <= MOST_PARTICLES
 }
 
-fn width_and_dt_are_good(call: &Call) -> bool {
+fn width_is_good(call: &Call) -> bool {
     let range = 1.0 / 1048576.0..=1048576.0;
-    range.contains(&call.cell_width) && call.dt > 0.0 && call.dt.is_finite()
+    range.contains(&call.cell_width)
+}
+
+fn width_and_dt_are_good(call: &Call) -> bool {
+    width_is_good(call) && call.dt > 0.0 && call.dt.is_finite()
 }
 
 fn gravity_is_good(call: &Call) -> bool {
@@ -271,6 +276,74 @@ fn second_half_counts(call: &Call) -> bool {
     let lists = [(&call.particle_floats, PARTICLE_FLOATS), (&call.particle_words, PARTICLE_WORDS)];
     let given = [(given_floats, GIVEN_FLOATS), (given_words, GIVEN_WORDS)];
     lists.iter().chain(&given).all(|(list, each)| list.len() as u128 == u128::from(call.particles) * u128::from(*each))
+}
+
+/// What the table says of a recomputation of fluids' volumes: 1 to 10, with h alone in 3. It is given the lists that a scatter is, and has
+/// no setting of its own in 4.
+pub fn fluids(call: &Call) -> Option<Refusal> {
+    refused(1, unless(scatter_counts(&Which::All, call)))
+        .or_else(|| refused(2, unless(regions_and_particles_are_few(call))))
+        .or_else(|| refused(3, unless(width_is_good(call))))
+        .or_else(|| refused(4, first_record_with(&call.particle_words, PARTICLE_WORDS, is_no_flag)))
+        .or_else(|| refused(5, first_record_with(&call.particle_floats, PARTICLE_FLOATS, is_not_finite)))
+        .or_else(|| ids_ranges_and_positions(call))
+}
+
+/// The length of a substep, and what remains after it.
+#[derive(Debug, PartialEq)]
+pub struct Substep {
+    pub length: f32,
+    pub remaining: f32,
+}
+
+/// The least length of a substep that more remains than: total/max_num_substeps, the count as an f32, ties to even.
+pub fn min_dt(total: f32, max_num_substeps: u32) -> f32 {
+    total / max_num_substeps as f32
+}
+
+/// One substep of this proposal, or what it is refused for: 3, and 4 for a proposal that breaks its rule.
+pub fn substep(remaining: f32, min: f32, max_substep_dt: f32, proposal: f32) -> Result<Substep, Refusal> {
+    if ![remaining, min, max_substep_dt].iter().all(|number| number.is_finite()) {
+        return Err(Refusal { number: 3, index: 0 });
+    }
+    let keeps_its_rule = proposal > 0.0 && proposal <= remaining && proposal <= max_substep_dt;
+    if !keeps_its_rule {
+        return Err(Refusal { number: 4, index: 0 });
+    }
+    let length = if proposal < min && remaining > min { min } else { proposal };
+    Ok(Substep { length, remaining: remaining - length })
+}
+
+/// The lengths of a step, or what it is refused for: 1, 3, 4, and of 4 its own settings first, then proposals as they are taken. Before
+/// each substep the ends are looked at: whether nothing remains, whether one was done and no more asked for, whether no proposal is left.
+pub fn step_lengths(step: &Step) -> Result<Taken, Refusal> {
+    let Step { total, max_substep_dt, max_num_substeps, stop_after_one_substep, proposals, dts } = step;
+    let no_settings = refused(1, unless(dts.len() as u64 == *proposals))
+        .or_else(|| refused(3, unless(total.is_finite() && max_substep_dt.is_finite())))
+        .or_else(|| refused(4, unless(*max_num_substeps != 0 && !is_no_flag(*stop_after_one_substep))));
+    if let Some(refusal) = no_settings {
+        return Err(refusal);
+    }
+    let min = min_dt(*total, *max_num_substeps);
+    let mut remaining = *total;
+    let mut dts = dts.iter().map(|dt| f32::from_bits(*dt));
+    for count in 0.. {
+        let ended = |end: u32| Ok(Taken { count, remaining, end });
+        if !(remaining > 0.0) {
+            return ended(FINISHED);
+        }
+        if *stop_after_one_substep == 1 && count == 1 {
+            return ended(ONE_DONE);
+        }
+        match dts.next() {
+            None => return ended(NONE_LEFT),
+            Some(dt) => {
+                let taken = substep(remaining, min, *max_substep_dt, dt);
+                remaining = taken.map_err(|refusal| Refusal { index: count, ..refusal })?.remaining;
+            }
+        }
+    }
+    unreachable!("proposals end")
 }
 
 #[cfg(test)]
@@ -568,6 +641,84 @@ mod tests {
         assert_eq!(of(&["f53=0", "f0=40A00000"]), refused(8, 2));
         assert_eq!(of(&["f0=40A00000", "f26=40E00000"]), refused(9, 0));
         assert_eq!(of(&["f26=40E00000"]), refused(10, 1));
+    }
+
+    /// What the table says of a recomputation of the three, with these changes.
+    fn of_fluids(edits: &[&str]) -> Option<Refusal> {
+        fluids(&three().edited(&edits.iter().map(|edit| edit.parse().unwrap()).collect::<Vec<_>>()))
+    }
+
+    #[test]
+    fn of_fluids_h_is_the_only_setting() {
+        let unused = ["t=7FC00000", "x=7F800000", "y=FFC00000", "e=2", "b=9", "d=9", "c=7"];
+        let largest = ["f12=FF7FFFFF", "f13=0", "w2=1", "m0=7FC00000", "m7=FF800000", "k4=7"];
+        for edits in [&[][..], &unused, &largest, &["f0=40400000"]] {
+            assert_eq!(of_fluids(edits), None, "{:?}", edits);
+        }
+        for edit in ["h=357FFFFF", "h=49800001", "h=7F800000", "h=FFC00000", "h=0", "h=BF800000"] {
+            assert_eq!(of_fluids(&[edit, "w0=2"]), refused(3, 0), "{}", edit);
+        }
+        assert_eq!([fluids(&Call::on(vec![])), fluids(&Call::on(vec![0, 1 << 63]))], [None, None]);
+    }
+
+    #[test]
+    fn of_fluids_numbers_come_in_their_order() {
+        for edit in ["i#2", "s#5", "f#77", "w#13", "m#335", "k#49", "r=2", "p=4", "r=18446744073709551615"] {
+            assert_eq!(of_fluids(&[edit, "h=0"]), refused(1, 0), "{}", edit);
+        }
+        assert_eq!(of_fluids(&["*65537", "h=0"]), refused(2, 0));
+        assert_eq!(of_fluids(&["w11=2", "f0=7F800000"]), refused(4, 2));
+        assert_eq!(of_fluids(&["f77=FFC00000", "f51=7F800000", "i0=1"]), refused(5, 1));
+        assert_eq!(of_fluids(&["i1=0", "s0=1"]), refused(6, 1));
+        assert_eq!(of_fluids(&["s5=0", "f0=0"]), refused(7, 3));
+        assert_eq!(of_fluids(&["f53=0", "f0=40A00000"]), refused(8, 2));
+        assert_eq!(of_fluids(&["f0=40A00000", "f26=40E00000"]), refused(9, 0));
+        assert_eq!(of_fluids(&["f26=40E00000"]), refused(10, 1));
+    }
+
+    /// A step whose least length is a fourth, with these proposals.
+    fn quarters(dts: &[f32]) -> Step {
+        let settings =
+            Step { total: 1.0, max_substep_dt: 0.5, max_num_substeps: 4, stop_after_one_substep: 0, proposals: 0, dts: vec![] };
+        settings.with(dts)
+    }
+
+    #[test]
+    fn lengths_by_hand() {
+        let of = |dts: &[f32]| step_lengths(&quarters(dts)).map(|Taken { count, remaining, end }| (count, remaining, end));
+        assert_eq!(of(&[]), Ok((0, 1.0, NONE_LEFT)));
+        assert_eq!(of(&[0.5, 0.5]), Ok((2, 0.0, FINISHED)));
+        assert_eq!(of(&[0.1, 0.3, 0.2]), Ok((3, 1.0 - 0.25 - 0.3 - 0.25, NONE_LEFT)));
+        assert_eq!(of(&[0.25, 0.25, 0.25, 0.125, 0.125, f32::NAN]), Ok((5, 0.0, FINISHED)));
+        let refused = |index: usize| Err(Refusal { number: 4, index });
+        assert_eq!([of(&[0.50000006]), of(&[0.5, 0.0]), of(&[0.5, 0.375, 0.25])], [refused(0), refused(1), refused(2)]);
+        let one = Step { stop_after_one_substep: 1, ..quarters(&[0.5, f32::NAN]) };
+        assert_eq!(step_lengths(&one), Ok(Taken { count: 1, remaining: 0.5, end: ONE_DONE }));
+        assert_eq!(step_lengths(&Step { total: 0.5, ..one }), Ok(Taken { count: 1, remaining: 0.0, end: FINISHED }));
+        let negative = Step { total: -3.5, ..quarters(&[f32::NAN]) };
+        assert_eq!(step_lengths(&negative), Ok(Taken { count: 0, remaining: -3.5, end: FINISHED }));
+    }
+
+    #[test]
+    fn of_lengths_counts_come_before_numbers_and_these_before_settings_and_proposals() {
+        let worst = Step {
+            total: f32::NAN,
+            max_substep_dt: f32::INFINITY,
+            max_num_substeps: 0,
+            stop_after_one_substep: 2,
+            proposals: 7,
+            ..quarters(&[0.5, f32::NAN])
+        };
+        let number = |step: &Step| step_lengths(step).err().map(|refusal| (refusal.number, refusal.index));
+        let counted = Step { proposals: 2, ..worst.clone() };
+        let total = Step { total: 1.0, ..counted.clone() };
+        let finite = Step { max_substep_dt: -1.0, ..total.clone() };
+        let some = Step { max_num_substeps: 1, ..finite.clone() };
+        let flag = Step { stop_after_one_substep: 1, ..some.clone() };
+        assert_eq!([&worst, &counted, &total].map(number), [Some((1, 0)), Some((3, 0)), Some((3, 0))]);
+        assert_eq!([&finite, &some, &flag].map(number), [Some((4, 0)); 3]);
+        let proposal = Step { max_substep_dt: 9.0, stop_after_one_substep: 0, ..flag.clone() };
+        assert_eq!([&proposal, &Step { max_substep_dt: 9.0, ..flag }].map(number), [Some((4, 1)), None]);
     }
 
     #[test]

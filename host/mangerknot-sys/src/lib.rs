@@ -82,6 +82,25 @@ pub struct Refusal {
     pub index: usize,
 }
 
+#[repr(C)]
+#[derive(Clone, Copy, Debug, PartialEq)]
+pub struct Lengths {
+    pub number: u32,
+    pub index: usize,
+    pub count: usize,
+    pub remaining: f32,
+    pub end: u32,
+}
+
+#[repr(C)]
+#[derive(Clone, Copy, Debug, PartialEq)]
+pub struct Substep {
+    pub number: u32,
+    pub index: usize,
+    pub length: f32,
+    pub remaining: f32,
+}
+
 extern "C" {
     pub fn mk_masked_add(mask: u64, i: u64, j: u64) -> u64;
     pub fn mk_region_of(cell_id: u64) -> u64;
@@ -285,4 +304,32 @@ extern "C" {
         given_words: *const u32,
         given_words_len: usize,
     ) -> Refusal;
+    pub fn mk_recompute_fluids_volumes2(
+        cell_width: f32,
+        regions: usize,
+        ids: *const u64,
+        ids_len: usize,
+        ranges: *const u64,
+        ranges_len: usize,
+        particles: usize,
+        particle_floats: *mut f32,
+        particle_floats_len: usize,
+        particle_words: *mut u32,
+        particle_words_len: usize,
+        node_floats: *mut f32,
+        node_floats_len: usize,
+        node_words: *mut u32,
+        node_words_len: usize,
+    ) -> Refusal;
+    pub fn mk_step_lengths(
+        total: f32,
+        max_substep_dt: f32,
+        max_num_substeps: u32,
+        stop_after_one_substep: u32,
+        proposals: usize,
+        dts: *const f32,
+        dts_len: usize,
+    ) -> Lengths;
+    pub fn mk_substep(remaining_time: f32, min_dt: f32, max_substep_dt: f32, dt: f32) -> Substep;
+    pub fn mk_min_dt(total: f32, max_num_substeps: u32) -> f32;
 }

@@ -7,27 +7,19 @@ mod lent;
 mod replay;
 
 use archive::Which;
-use guarded::{ask, done, replay_calls};
+use guarded::{ask, done, replay_calls, stage, Both};
 use mangerknot_sys::*;
 use replay::decimal;
 use samples::lines::folded;
 use samples::particle::*;
-use samples::random::{gathered, Old, Style};
-use samples::substeps::{self, Answer, Stage};
-use samples::{plane, Call, Gather, Records, Rng, NODE_FLOATS, PARTICLE_FLOATS, PARTICLE_WORDS};
+use samples::random::{gathered, Style};
+use samples::{plane, substeps, Call, Gather, Rng, NODE_FLOATS, PARTICLE_FLOATS, PARTICLE_WORDS};
 use std::ptr;
 
 const SEED: u64 = 0x4761_7468_6572_2121;
 
-fn written(call: &Call, (floats, words): &Records) -> Vec<String> {
+fn written(call: &Call, [(floats, words), _]: &Both) -> Vec<String> {
     folded(&call.particles_answered((floats, words)))
-}
-
-fn stage(stage: Stage, call: &Call) -> Answer {
-    match ask(&stage.into(), call) {
-        (Refusal { number: 0, .. }, records) => Ok(records),
-        (Refusal { number, index }, _) => Err((number, index)),
-    }
 }
 
 #[test]
@@ -35,7 +27,9 @@ fn gather_vectors() {
     let letters = replay_calls("gather", Call::from_gather_fields, |letter, call, more| match (letter, more) {
         ("g", edits) => guarded::answer(&Which::FirstHalf, call, edits, written),
         ("s", edits) => guarded::answer(&Which::SecondHalf, call, edits, written),
-        ("w", [seed, count]) => substeps::run(call, decimal(seed), decimal(count), |substep| substep.in_turn(stage)).join("\t"),
+        ("w", [seed, count]) => {
+            substeps::run(call, false, decimal(seed), decimal(count), |substep| substep.in_turn(stage)).join("\t")
+        }
         _ => panic!("no such question: {} {:?}", letter, more),
     });
     assert_eq!(letters, "bgsw");
@@ -44,13 +38,9 @@ fn gather_vectors() {
 /// A particle of mass 2 at (2, 2) with F = (1, 2; 3, 4), where h is 1 and dt a half. The nodes' velocities are those of a field that is
 /// (1, 3) at the particle, and whose x part grows by 1 along x and y part falls by 2 along y. Psi is 1.5 at every node.
 fn in_a_field() -> Call {
-    let mut call = Call { dt: 0.5, particles: 1, ranges: vec![0, 1], ..Call::on(vec![0]) };
-    call.particle_floats = vec![0; PARTICLE_FLOATS];
-    call.particle_words = vec![0; PARTICLE_WORDS];
-    let floats =
-        [(POSITION, 2.0f32), (POSITION + 1, 2.0), (MASS, 2.0), (PHASE, 1.0), (CRACK_FACTOR, 2.0), (CRACK_THRESHOLD, 3.0)];
-    let f = (0..4).map(|place| (DEFORMATION + place, 1.0 + place as f32));
-    floats.into_iter().chain(f).for_each(|(place, float)| call.particle_floats[place] = float.to_bits());
+    let floats = [(POSITION, 2.0), (POSITION + 1, 2.0), (MASS, 2.0), (PHASE, 1.0), (CRACK_FACTOR, 2.0), (CRACK_THRESHOLD, 3.0)];
+    let f: Vec<(usize, f32)> = (0..4).map(|place| (DEFORMATION + place, 1.0 + place as f32)).collect();
+    let mut call = Call { dt: 0.5, ..Call::of_one(&[&floats[..], &f].concat(), &[]) };
     for (number, node) in call.node_floats.chunks_exact_mut(NODE_FLOATS).enumerate() {
         let [x, y] = plane::centre(plane::cell_of(0, number), 1.0);
         let parts = [7.0, 7.0, 7.0, 1.0 + (x - 2.0), 3.0 - 2.0 * (y - 2.0), 3.0, 2.0];
@@ -180,8 +170,7 @@ fn what_a_half_does_not_name_keeps_every_bit() {
     let mut rng = Rng::new(SEED);
     let mut moved = 0;
     for sample in 0..3000 {
-        let style = Style { old: rng.one_of(&[Old::Patterns, Old::Numbers, Old::Zeros]), ..Style::any(&mut rng) };
-        let call = gathered(style.sample(&mut rng), &mut rng);
+        let call = gathered(Style::over_old_nodes(&mut rng).sample(&mut rng), &mut rng);
         for which in [Which::FirstHalf, Which::SecondHalf] {
             let (floats, words) = done(&which, &call);
             for particle in 0..call.particles as usize {

@@ -23,7 +23,7 @@ fn hits(which: &Which, call: &Call) -> Vec<bool> {
 }
 
 fn answer(which: &Which, call: &Call, edits: &[&str]) -> String {
-    guarded::answer(which, call, edits, |call, (floats, words)| call.answered((floats, words), &hits(which, call)))
+    guarded::answer(which, call, edits, |call, [_, (floats, words)]| call.answered((floats, words), &hits(which, call)))
 }
 
 #[test]

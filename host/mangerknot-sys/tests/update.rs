@@ -24,8 +24,8 @@ fn written(call: &Call, nodes: &Records) -> Vec<String> {
 #[test]
 fn update_vectors() {
     let letters = replay_calls("update", Call::from_bounded_fields, |letter, call, edits| match letter {
-        "u" => guarded::answer(&Which::Update, call, edits, written),
-        "a" => guarded::answer(&Which::Sequence, call, edits, written),
+        "u" => guarded::answer(&Which::Update, call, edits, |call, [_, nodes]| written(call, nodes)),
+        "a" => guarded::answer(&Which::Sequence, call, edits, |call, [_, nodes]| written(call, nodes)),
         _ => panic!("no such question: {}", letter),
     });
     assert_eq!(letters, "abu");

@@ -1,6 +1,8 @@
-//! Calls of a scatter, of an update and of a gather to judge by: made from a seed (`random`), written in lines and read again
-//! (`lines`), and put together to whole substeps (`substeps`). The rules are document 01's (`plane`); nothing is taken from the port.
+//! Calls of a scatter, of an update, of a gather and of a recomputation of fluids to judge by: made from a seed (`random`), written in
+//! lines and read again (`lines`), and put together to whole substeps (`substeps`); and steps whose lengths are asked for (`lengths`). The
+//! rules are document 01's (`plane`); nothing is taken from the port.
 
+pub mod lengths;
 pub mod lines;
 pub mod plane;
 pub mod random;
@@ -44,7 +46,7 @@ pub mod particle {
     pub const STATIC: usize = 3;
 }
 
-/// All that a scatter is given, an update, and a gather. Floats of records are kept as bits, so that no NaN loses its pattern.
+/// All that a scatter is given, an update, a gather, and a recomputation of fluids. Floats of records are kept as bits, so that no NaN loses its pattern.
 #[derive(Clone, Debug, PartialEq)]
 pub struct Call {
     pub cell_width: f32,
@@ -111,6 +113,16 @@ impl Call {
             boundary: Boundary::default(),
             gather: Gather::default(),
         }
+    }
+
+    /// A call on region 0 with one particle, which has these of its floats and these of its flags on, and else zeros.
+    pub fn of_one(floats: &[(usize, f32)], flags: &[usize]) -> Call {
+        let mut call = Call { particles: 1, ranges: vec![0, 1], ..Call::on(vec![0]) };
+        call.particle_floats = vec![0; PARTICLE_FLOATS];
+        call.particle_words = vec![0; PARTICLE_WORDS];
+        floats.iter().for_each(|(place, float)| call.particle_floats[*place] = float.to_bits());
+        flags.iter().for_each(|flag| call.particle_words[*flag] = 1);
+        call
     }
 
     /// The call with these colliders, whose points are all the origin, and outside.

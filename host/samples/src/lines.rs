@@ -12,9 +12,11 @@ use std::str::FromStr;
 /// The fields of a line that are still to be read.
 type Fields<'a> = Copied<Iter<'a, &'a str>>;
 
-/// How a node of zeros is written, a projection or what is given of a particle; and a node or particle that is as it was.
+/// How a node of zeros is written, a projection or what is given of a particle; a node or particle that is as it was; and a node that is
+/// so but for its mass, which is +0.
 const EMPTY: &str = "0";
 const KEPT: &str = "=";
+const NO_MASS: &str = "m";
 
 impl Call {
     /// The call's fields: settings, regions with their starts and counts, particles, nodes.
@@ -96,9 +98,8 @@ impl Call {
     /// The nodes after a call that was done, as an answer has them: a node that was hit with one pattern for every NaN, and of
     /// the others whether they are as they were.
     pub fn answered(&self, after: (&[u32], &[u32]), hit: &[bool]) -> Vec<String> {
-        let before = self.node_floats.chunks_exact(NODE_FLOATS).zip(&self.node_words);
-        let after = after.0.chunks_exact(NODE_FLOATS).zip(after.1);
-        let nodes = before.zip(after).zip(hit).map(|((before, (floats, flag)), hit)| match hit {
+        let before = nodes(&self.node_floats, &self.node_words);
+        let nodes = before.zip(nodes(after.0, after.1)).zip(hit).map(|((before, (floats, flag)), hit)| match hit {
             true => canonical_hex(floats) + &word(*flag),
             false if before == (floats, flag) => KEPT.to_string(),
             false => hex(floats) + &word(*flag),
@@ -108,12 +109,20 @@ impl Call {
 
     /// The nodes after a call that may write to any of them.
     pub fn all_answered(&self, after: (&[u32], &[u32])) -> Vec<String> {
-        let nodes = |floats: &[u32], words: &[u32]| -> Vec<(Vec<u32>, u32)> {
-            floats.chunks_exact(NODE_FLOATS).map(<[u32]>::to_vec).zip(words.iter().copied()).collect()
-        };
-        let (before, now) = (nodes(&self.node_floats, &self.node_words), nodes(after.0, after.1));
-        let moved: Vec<bool> = before.iter().zip(&now).map(|(before, now)| before != now).collect();
+        let before = nodes(&self.node_floats, &self.node_words);
+        let moved: Vec<bool> = before.zip(nodes(after.0, after.1)).map(|(before, now)| before != now).collect();
         self.answered(after, &moved)
+    }
+
+    /// The nodes after a recomputation of fluids: of one that is as it was, bit for bit, or but for a mass of +0, only that.
+    pub fn masses_answered(&self, after: (&[u32], &[u32])) -> Vec<String> {
+        let before = nodes(&self.node_floats, &self.node_words);
+        let nodes = before.zip(nodes(after.0, after.1)).map(|((old, old_flag), (new, flag))| match old_flag == flag {
+            true if old == new => KEPT.to_string(),
+            true if old[1..] == new[1..] && new[0] == 0 => NO_MASS.to_string(),
+            _ => hex(new) + &word(*flag),
+        });
+        nodes.collect()
     }
 
     /// The particles after a call that was done: of one that is as it was, bit for bit, only that; else with one pattern for every NaN.
@@ -151,6 +160,11 @@ impl Gather {
     }
 }
 
+/// The floats and the word of each node.
+fn nodes<'a>(floats: &'a [u32], words: &'a [u32]) -> impl Iterator<Item = (&'a [u32], &'a u32)> {
+    floats.chunks_exact(NODE_FLOATS).zip(words)
+}
+
 /// The floats and words of each particle.
 fn particles<'a>(floats: &'a [u32], words: &'a [u32]) -> impl Iterator<Item = (&'a [u32], &'a [u32])> {
     floats.chunks_exact(PARTICLE_FLOATS).zip(words.chunks_exact(PARTICLE_WORDS))
@@ -167,6 +181,14 @@ pub fn folded(fields: &[String]) -> Vec<String> {
     }
     let written = |(field, count): (&String, usize)| if count == 1 { field.clone() } else { format!("{}*{}", field, count) };
     found.into_iter().map(written).collect()
+}
+
+/// The fields that `folded` made these of.
+pub fn unfolded<'a>(fields: &'a [&str]) -> impl Iterator<Item = &'a str> {
+    fields.iter().flat_map(|field| {
+        let (field, count) = field.split_once('*').unwrap_or((*field, "1"));
+        std::iter::repeat(field).take(decimal(count))
+    })
 }
 
 /// Records of so many floats and one word each, in the fields of a line.
@@ -188,7 +210,7 @@ fn read_records(fields: &mut Fields, count: usize, floats: usize, words: usize) 
     (all_floats.concat(), all_words.concat())
 }
 
-fn word(number: u32) -> String {
+pub(crate) fn word(number: u32) -> String {
     format!("{:08X}", number)
 }
 
@@ -200,11 +222,11 @@ fn canonical_hex(floats: &[u32]) -> String {
     floats.iter().map(|part| word(canonical(*part))).collect()
 }
 
-fn bits(field: &str) -> u32 {
+pub(crate) fn bits(field: &str) -> u32 {
     u32::from_str_radix(field, 16).expect("8 hex digits")
 }
 
-fn decimal<T: FromStr>(field: &str) -> T {
+pub(crate) fn decimal<T: FromStr>(field: &str) -> T {
     field.parse().ok().expect("a decimal")
 }
 
@@ -391,7 +413,9 @@ mod tests {
         let answered = call.particles_answered((&floats, &words));
         assert_eq!([&answered[0], &answered[3]], ["=", "="]);
         assert_eq!((answered[1].len(), &answered[1][200..208], &answered[1][232..]), (240, "7FC00000", "00000007"));
-        assert_eq!(folded(&answered), ["=".to_string(), answered[1].clone() + "*2", "=".to_string()]);
+        let folded_fields = folded(&answered);
+        assert_eq!(folded_fields, ["=".to_string(), answered[1].clone() + "*2", "=".to_string()]);
+        assert!(unfolded(&folded_fields.iter().map(String::as_str).collect::<Vec<_>>()).eq(&answered));
         assert!(folded(&[]).is_empty());
     }
 
@@ -440,6 +464,18 @@ mod tests {
         let answered = call.all_answered((&floats, &words));
         assert_eq!(answered[..2], ["=".to_string(), format!("{:0<64}", "7FC00000")]);
         assert_eq!(answered[2..4], [format!("{:0>64}", 1), "=".to_string()]);
+    }
+
+    #[test]
+    fn an_answer_of_masses_has_what_else_moved() {
+        let mut call = Call::on(vec![0]);
+        call.node_floats[..14].fill(0xff80_0001);
+        let (mut floats, mut words) = (call.node_floats.clone(), call.node_words.clone());
+        (floats[0], floats[7], floats[14], words[3]) = (0, 0x8000_0000, 1, 1);
+        let answered = call.masses_answered((&floats, &words));
+        assert_eq!([&answered[0], &answered[4]], ["m", "="]);
+        assert_eq!(answered[1], "80000000".to_string() + &"FF800001".repeat(6) + "00000000");
+        assert_eq!(answered[2..4], [format!("{:0<64}", "00000001"), format!("{:0>64}", 1)]);
     }
 
     #[test]

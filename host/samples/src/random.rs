@@ -186,6 +186,11 @@ impl Style {
         }
     }
 
+    /// Any style over nodes that hold something, be it zeros.
+    pub fn over_old_nodes(rng: &mut Rng) -> Style {
+        Style { old: rng.one_of(&[Old::Patterns, Old::Numbers, Old::Zeros]), ..Style::any(rng) }
+    }
+
     pub fn sample(&self, rng: &mut Rng) -> Call {
         let records = (0..self.particles).map(|_| self.particle(rng)).collect();
         let mut regions = by_regions(records, self.cell_width).expect("made to be in range");
@@ -283,7 +288,7 @@ impl Numbers {
 }
 
 /// Random digits and sign, with an exponent's field from one to another.
-fn with_exponent(least: u32, largest: u32, rng: &mut Rng) -> f32 {
+pub(crate) fn with_exponent(least: u32, largest: u32, rng: &mut Rng) -> f32 {
     let field = least + rng.below(u64::from(largest - least) + 1) as u32;
     f32::from_bits(rng.word() & 0x807f_ffff | field << 23)
 }

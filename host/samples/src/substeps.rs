@@ -1,33 +1,51 @@
-//! Whole substeps in a row: clear, scatter and update in one, the first half of gather, what a host does then, the second half.
+//! Whole substeps in a row: clear, scatter and update in one, the first half of gather, what a host does then, the second half. In front of
+//! these, where it is asked for, fluids' volumes are recomputed on nodes that were cleared.
 
 use crate::lines::folded;
 use crate::particle::DEFORMATION;
 use crate::random::{about_the_largest, bounded, given, sorted_again};
 use crate::{Call, Records, Rng, PARTICLE_FLOATS};
 
-/// A substep: its call, which has what every stage is given, and the F that the host puts between the halves, where it does.
+/// A substep: its call, which has what every stage is given; the F that the host puts between the halves, where it does; and whether
+/// fluids' volumes are recomputed.
 pub struct Substep {
     pub call: Call,
     pub rewritten: Vec<Option<[u32; 4]>>,
+    pub recomputes: bool,
 }
 
 /// The calls of a substep, in their order.
 #[derive(Clone, Copy, Debug, PartialEq)]
 pub enum Stage {
+    Clear,
+    Fluids,
     Sequence,
     FirstHalf,
     SecondHalf,
+}
+
+impl Stage {
+    /// What a stage leaves to the next is particles, or else nodes. The masses that the recomputation leaves are as it found them, since
+    /// it found none.
+    pub fn leaves_particles(self) -> bool {
+        matches!(self, Stage::Fluids | Stage::FirstHalf | Stage::SecondHalf)
+    }
 }
 
 /// What a stage writes, nodes or particles, or the number and the index that it is refused with.
 pub type Answer = Result<Records, (u32, usize)>;
 
 impl Substep {
-    fn of(call: Call, rng: &mut Rng) -> Substep {
+    fn of(call: Call, recomputes: bool, rng: &mut Rng) -> Substep {
         let colliders = rng.below(3) as usize;
         let call = given(bounded(call, colliders, rng), rng);
         let rewritten = (0..call.particles).map(|_| rewriting(rng)).collect();
-        Substep { call, rewritten }
+        Substep { call, rewritten, recomputes }
+    }
+
+    pub fn stages(&self) -> &'static [Stage] {
+        const ALL: [Stage; 5] = [Stage::Clear, Stage::Fluids, Stage::Sequence, Stage::FirstHalf, Stage::SecondHalf];
+        &ALL[if self.recomputes { 0 } else { 2 }..]
     }
 
     /// What the first half left, with the host's F.
@@ -39,20 +57,34 @@ impl Substep {
         call
     }
 
-    /// What the three stages answer one after the other, up to one that is refused.
+    /// What the stages answer one after the other, up to one that is refused.
     pub fn in_turn(&self, mut ask: impl FnMut(Stage, &Call) -> Answer) -> Vec<Answer> {
         let mut call = self.call.clone();
         let mut answers = vec![];
-        for stage in [Stage::Sequence, Stage::FirstHalf, Stage::SecondHalf] {
-            let answer = ask(stage, &call);
+        for stage in self.stages() {
+            let answer = ask(*stage, &call);
             match (&answer, stage) {
-                (Ok(nodes), Stage::Sequence) => (call.node_floats, call.node_words) = nodes.clone(),
+                (Ok(nodes), Stage::Clear | Stage::Sequence) => (call.node_floats, call.node_words) = nodes.clone(),
+                (Ok(particles), Stage::Fluids) => call = call.with_particles(particles),
                 (Ok(left), _) => call = self.handed_over(left),
                 (Err(_), _) => return [answers, vec![answer]].concat(),
             }
             answers.push(answer);
         }
         answers
+    }
+
+    /// The same where all that the stages leave comes at once, from one who refuses nothing.
+    pub fn judged(
+        &self,
+        refused: impl Fn(Stage, &Call) -> Option<(u32, usize)>,
+        all_left: impl Fn(&Substep) -> Vec<Records>,
+    ) -> Vec<Answer> {
+        let mut left = None;
+        self.in_turn(|stage, call| match refused(stage, call) {
+            Some(refusal) => Err(refusal),
+            None => Ok(left.get_or_insert_with(|| all_left(self).into_iter()).next().expect("what a stage leaves")),
+        })
     }
 }
 
@@ -65,8 +97,14 @@ fn rewriting(rng: &mut Rng) -> Option<[u32; 4]> {
 }
 
 /// So many substeps from a call on, or fewer where one is refused or leaves a particle off the grid. What is written down of each stage
-/// is number and index and, of a half that is done, its particles. `stages` answers a substep's, up to one that is refused.
-pub fn run(call: &Call, seed: u64, count: usize, mut stages: impl FnMut(&Substep) -> Vec<Answer>) -> Vec<String> {
+/// is number and index and, of one that is done and leaves particles, these. `stages` answers a substep's, up to one that is refused.
+pub fn run(
+    call: &Call,
+    recomputes: bool,
+    seed: u64,
+    count: usize,
+    mut stages: impl FnMut(&Substep) -> Vec<Answer>,
+) -> Vec<String> {
     let mut rng = Rng::new(seed);
     let mut fields = vec![];
     let mut next = Some(call.clone());
@@ -75,12 +113,12 @@ pub fn run(call: &Call, seed: u64, count: usize, mut stages: impl FnMut(&Substep
             Some(call) => call,
             None => return fields,
         };
-        let substep = Substep::of(call, &mut rng);
+        let substep = Substep::of(call, recomputes, &mut rng);
         let answers = stages(&substep);
-        for (stage, answer) in answers.iter().enumerate() {
+        for (stage, answer) in substep.stages().iter().zip(&answers) {
             let (number, index) = answer.as_ref().err().copied().unwrap_or_default();
             fields.extend([number.to_string(), index.to_string()]);
-            let particles = answer.iter().filter(|_| stage > 0);
+            let particles = answer.iter().filter(|_| stage.leaves_particles());
             fields.extend(particles.flat_map(|(floats, words)| folded(&substep.call.particles_answered((floats, words)))));
         }
         next = match answers.last() {
@@ -104,6 +142,12 @@ mod tests {
             Stage::FirstHalf => assert_eq!(call.node_floats, vec![7; call.node_floats.len()]),
             Stage::SecondHalf if call.position(0)[0] > 9.0 => return Err((5, 3)),
             Stage::SecondHalf => return Ok((floats, words)),
+            Stage::Clear => return Ok((vec![0; call.node_floats.len()], vec![0; call.node_words.len()])),
+            Stage::Fluids => {
+                assert!(call.node_floats.iter().all(|bits| *bits == 0));
+                floats[DEFORMATION] = 9f32.to_bits();
+                return Ok((floats, words));
+            }
         }
         for particle in floats.chunks_exact_mut(PARTICLE_FLOATS) {
             particle[0] = (f32::from_bits(particle[0]) + 1.0).to_bits();
@@ -116,7 +160,7 @@ mod tests {
         let mut rng = Rng::new(1);
         let call = Style::plain(1.0, [3, 3], [1, 1], 5).sample(&mut rng);
         let mut lists = vec![];
-        let fields = run(&call, 3, 20, |substep| {
+        let fields = run(&call, false, 3, 20, |substep| {
             assert_eq!(substep.rewritten.len(), 5);
             assert_eq!(substep.call.gather.given_words.len(), 5);
             lists.push(substep.call.ids.clone());
@@ -126,12 +170,33 @@ mod tests {
         assert_eq!(fields[fields.len() - 2..], ["5", "3"]);
     }
 
+    /// What the recomputation leaves goes into the stages behind it, and what comes at once is cut where a stage is refused.
+    #[test]
+    fn with_fluids_there_are_five_stages() {
+        let call = Style::plain(1.0, [3, 3], [1, 1], 2).sample(&mut Rng::new(1));
+        let mut stages = vec![];
+        let fields = run(&call, true, 3, 1, |substep| {
+            let answers = substep.in_turn(|stage, call| {
+                let f00 = f32::from_bits(call.particle_floats[DEFORMATION]);
+                stages.push((stage, f00 == 9.0));
+                moving(stage, call)
+            });
+            let records = || answers.iter().flatten().cloned().collect();
+            assert_eq!(substep.judged(|_, _| None, |_| records()), answers);
+            let first_refused = substep.judged(|stage, _| (stage == Stage::Sequence).then_some((5, 1)), |_| records());
+            assert_eq!(first_refused, [&answers[..2], &[Err((5, 1))]].concat());
+            answers
+        });
+        assert_eq!(stages[..3], [(Stage::Clear, false), (Stage::Fluids, false), (Stage::Sequence, true)]);
+        assert_eq!((stages.len(), &fields[..4]), (5, &["0", "0", "0", "0"].map(String::from)[..]));
+    }
+
     #[test]
     fn a_particle_off_the_grid_ends_it() {
         let mut rng = Rng::new(1);
         let call = Style::plain(1.0, [3, 3], [1, 1], 1).sample(&mut rng);
         let mut count = 0;
-        run(&call, 3, 20, |substep| {
+        run(&call, false, 3, 20, |substep| {
             count += 1;
             let (mut floats, words) = (substep.call.particle_floats.clone(), substep.call.particle_words.clone());
             floats[1] = if count == 3 { f32::NAN.to_bits() } else { floats[1] };
@@ -143,7 +208,7 @@ mod tests {
     #[test]
     fn the_host_rewrites_f_alone() {
         let call = Style::plain(1.0, [3, 3], [1, 1], 2).sample(&mut Rng::new(1));
-        let substep = Substep { call: call.clone(), rewritten: vec![None, Some([1, 2, 3, 4])] };
+        let substep = Substep { call: call.clone(), rewritten: vec![None, Some([1, 2, 3, 4])], recomputes: false };
         let mut right = call.clone();
         right.particle_floats[PARTICLE_FLOATS + DEFORMATION..][..4].copy_from_slice(&[1, 2, 3, 4]);
         assert_eq!(substep.handed_over(&(call.particle_floats, call.particle_words)), right);

@@ -1,10 +1,11 @@
-//! The archive's scatter, update and gather beside the handed-over Rust's, in one process.
+//! The archive's scatter, update, gather, recomputation of fluids and lengths beside the handed-over Rust's, in one process.
 //!
 //!     judge compare SEED COUNT     so many random calls: the scatter of all regions, of one, and in an order, the update, clear, scatter
-//!                                  and update in one, and each half of the gather; and substeps in a row from each of these calls;
-//!                                  status 1 where nodes or particles differ
-//!     judge time [REPETITIONS]     clear, scatter, update and gather of 65,536 particles in 512 regions, each side by itself; medians
-//!                                  and ratios
+//!                                  and update in one, each half of the gather, and the recomputation of fluids; substeps in a row
+//!                                  from each of these calls, without that and with it; and steps' lengths; status 1 where nodes,
+//!                                  particles or lengths differ
+//!     judge time [REPETITIONS]     clear, recomputation of fluids, scatter, update and gather of 65,536 particles in 512 regions, each
+//!                                  side by itself; medians and ratios
 //!
 //! Any NaN equals any NaN in a node that is hit or moved and in a particle that is; the others keep every bit. Status 2 where the words are
 //! wrong.

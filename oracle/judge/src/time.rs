@@ -1,7 +1,7 @@
-//! How long clear, scatter, update and gather take on as many particles and regions as there may be, here and in the handed-over Rust.
+//! How long clear, recomputation of fluids, scatter, update and gather take on as many particles and regions as there may be, here and in the handed-over Rust.
 
 use crate::archive::{self, Which};
-use mangerknot_sys::{mk_clear2, Refusal};
+use mangerknot_sys::Refusal;
 use samples::particle::FLUID;
 use samples::random::bounded;
 use samples::{plane, Call, Gather, Records, Rng, FRICTION, PARTICLE_FLOATS, PARTICLE_WORDS};
@@ -27,7 +27,8 @@ pub fn run(repetitions: usize) -> bool {
     // A region without particles is scattered after the check of everything, and to no node.
     let empty = Which::Region(call.regions as usize - 1);
     for _ in 0..repetitions {
-        times.port_clear.push(timed(|| port.clear()));
+        times.port_clear.push(timed(|| port.ask(&Which::Clear)));
+        times.port_fluids.push(timed(|| port.ask(&Which::Fluids)));
         times.port_scatter.push(timed(|| port.ask(&Which::All)));
         times.port_check.push(timed(|| port.ask(&empty)));
         times.port_update.push(timed(|| port.ask(&Which::Update)));
@@ -36,6 +37,7 @@ pub fn run(repetitions: usize) -> bool {
         times.port_first_half.push(first);
         times.port_gather.push(first + second);
         times.rust_clear.push(timed(|| rust.scene.clear()));
+        times.rust_fluids.push(timed(|| rust.scene.recompute_fluids()));
         times.rust_scatter.push(timed(|| rust.scene.scatter()));
         times.rust_update.push(timed(|| rust.scene.update()));
         times.rust_gather.push(timed(|| rust.scene.gather()));
@@ -45,6 +47,7 @@ pub fn run(repetitions: usize) -> bool {
         rust.scene.put_back();
     }
     say("clear", &mut times.port_clear, &mut times.rust_clear);
+    say("recomputation of fluids", &mut times.port_fluids, &mut times.rust_fluids);
     say("scatter", &mut times.port_scatter, &mut times.rust_scatter);
     say("update", &mut times.port_update, &mut times.rust_update);
     say("gather, both halves", &mut times.port_gather, &mut times.rust_gather);
@@ -68,12 +71,14 @@ fn said(same: bool) -> &'static str {
 #[derive(Default)]
 struct Times {
     port_clear: Vec<Duration>,
+    port_fluids: Vec<Duration>,
     port_scatter: Vec<Duration>,
     port_check: Vec<Duration>,
     port_update: Vec<Duration>,
     port_first_half: Vec<Duration>,
     port_gather: Vec<Duration>,
     rust_clear: Vec<Duration>,
+    rust_fluids: Vec<Duration>,
     rust_scatter: Vec<Duration>,
     rust_update: Vec<Duration>,
     rust_gather: Vec<Duration>,
@@ -84,23 +89,13 @@ struct Port {
 }
 
 impl Port {
-    fn clear(&mut self) {
-        let Call { ids, node_floats, node_words, .. } = &mut self.call;
-        let (floats, words) = (node_floats.as_mut_ptr().cast(), node_words.as_mut_ptr());
-        expect_done(unsafe { mk_clear2(ids.len(), ids.as_ptr(), ids.len(), floats, node_floats.len(), words, node_words.len()) });
-    }
-
     fn ask(&mut self, which: &Which) {
-        expect_done(archive::answer_in_place(which, &mut self.call));
+        assert_eq!(archive::answer_in_place(which, &mut self.call), Refusal { number: 0, index: 0 });
     }
 
     fn particles(&self) -> Records {
         (self.call.particle_floats.clone(), self.call.particle_words.clone())
     }
-}
-
-fn expect_done(refusal: Refusal) {
-    assert_eq!(refusal, Refusal { number: 0, index: 0 });
 }
 
 struct Rust {
@@ -178,6 +173,11 @@ mod tests {
         let call = full_call();
         assert_eq!((call.regions, call.particles), (512, 65_536));
         let mut port = Port { call };
+        let before = port.call.clone();
+        port.ask(&Which::Fluids);
+        let (floats, words) = port.particles();
+        let recomputed = before.particles_answered((&floats, &words));
+        assert_eq!(recomputed.iter().filter(|particle| *particle != "=").count(), PARTICLES / 4);
         port.ask(&Which::All);
         assert!(port.call.hits(None).iter().filter(|hit| **hit).count() > 7000);
         let scattered = port.call.clone();

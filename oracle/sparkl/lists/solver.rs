@@ -1,13 +1,10 @@
-pub use crate::core::dynamics::solver::{BoundaryHandling, DamageModel, SimulationDofs};
+pub use self::mls_solver::{MlsSolver, RigidWorld};
+pub use self::mpm_hooks::MpmHooks;
+pub use crate::core::dynamics::solver::{BoundaryHandling, DamageModel, SimulationDofs, SolverParameters};
 
+mod fluids_volume;
 mod grid_to_particle;
 mod grid_update;
+mod mls_solver;
+mod mpm_hooks;
 mod particle_to_grid;
-
-/// The name that the stages belong to; the file that declares it has the whole step, which is not built here.
-pub struct MlsSolver;
-
-/// Declared beside it.
-pub struct RigidWorld<'a> {
-    pub colliders: &'a crate::colliders::ColliderSet,
-}

@@ -10,6 +10,11 @@ pub fn of_scatter(call: &Call) -> Vec<Vec<Edit>> {
     of_particles_and_nodes(call, "htxy")
 }
 
+/// What a recomputation of fluids' volumes can be refused for.
+pub fn of_fluids(call: &Call) -> Vec<Vec<Edit>> {
+    of_particles_and_nodes(call, "h")
+}
+
 /// What the first half of a gather can be refused for.
 pub fn of_first_half(call: &Call) -> Vec<Vec<Edit>> {
     [of_particles_and_nodes(call, "ht"), wrong_codes("e")].concat()

@@ -21,7 +21,7 @@ use crate::rng::Rng;
 use samples::lines::{folded, Edit};
 use samples::particle::*;
 use samples::random::{gathered, given, Numbers, Old, Style, LARGEST_DEFORMATION, LAST_CELL, WIDTHS};
-use samples::substeps::{self, Answer, Substep};
+use samples::substeps::{self, Answer, Stage, Substep};
 use samples::{Call, Records, NODE_FLOATS, PARTICLE_FLOATS, PARTICLE_WORDS};
 use sparkl2d::scene::Scene;
 
@@ -80,10 +80,11 @@ impl Book {
         });
     }
 
-    fn ask_substeps(&mut self, number: usize, count: usize) {
+    /// So many substeps in a row, with a recomputation of fluids' volumes in front of each or without it.
+    pub fn ask_substeps(&mut self, number: usize, recomputes: bool, count: usize) {
         let seed = u64::from(self.rng.word());
         let more = vec![decimal(seed), decimal(count as u64)];
-        self.question("w", number, more, &[], |call| substeps::run(call, seed, count, stages));
+        self.question("w", number, more, &[], |call| substeps::run(call, recomputes, seed, count, stages));
     }
 }
 
@@ -92,24 +93,26 @@ fn written(call: &Call, (floats, words): &Records) -> Vec<String> {
 }
 
 /// What the stages of a substep answer; the Rust's gather is one call there.
-fn stages(substep: &Substep) -> Vec<Answer> {
-    let refused = |refusal: Refusal| Err((refusal.number, refusal.index));
-    let call = &substep.call;
-    if let Some(refusal) = reading::clear_scatter_update(call) {
-        return vec![refused(refusal)];
+pub fn stages(substep: &Substep) -> Vec<Answer> {
+    substep.judged(|stage, call| refused(stage, call).map(|refusal| (refusal.number, refusal.index)), Scene::substep)
+}
+
+fn refused(stage: Stage, call: &Call) -> Option<Refusal> {
+    match stage {
+        Stage::Clear => reading::clear(call.regions, &call.ids, call.node_floats.len() as u64, call.node_words.len() as u64),
+        Stage::Fluids => reading::fluids(call),
+        Stage::Sequence => reading::clear_scatter_update(call),
+        Stage::FirstHalf => reading::first_half(call),
+        Stage::SecondHalf => reading::second_half(call),
     }
-    assert_eq!(reading::first_half(call), None, "what a scatter is given, a gather is");
-    let [nodes, left, last] = Scene::substep(substep);
-    let last = reading::second_half(&substep.handed_over(&left)).map_or(Ok(last), refused);
-    vec![Ok(nodes), Ok(left), last]
 }
 
 /// The change of a float, of a particle (f), a node (m) or of what is given (g).
-fn float(letter: char, place: usize, float: f32) -> Edit {
+pub fn float(letter: char, place: usize, float: f32) -> Edit {
     entry(letter, place, float.to_bits())
 }
 
-fn flag(place: usize) -> Edit {
+pub fn flag(place: usize) -> Edit {
     entry('w', place, 1)
 }
 
@@ -451,18 +454,18 @@ impl Book {
             let dt = [0.1, 0.01, 1.0 / 60.0, 0.5][place % 4];
             let call = style.sample(&mut self.rng);
             let number = self.add_substeps(call, dt);
-            self.ask_substeps(number, 3 + place % 4);
+            self.ask_substeps(number, false, 3 + place % 4);
         }
         for place in 0..24 {
             let numbers = [Numbers::Huge, Numbers::Mixed, Numbers::Tiny, Numbers::Any][place % 4];
             let style = Style { numbers, ..Style::plain(WIDTHS[place % 10], [5, 5], [1, 1], 1 + place % 3) };
             let call = style.sample(&mut self.rng);
             let number = self.add_substeps(call, [0.1, 1.0, 1e-30, 1e30][place / 4 % 4]);
-            self.ask_substeps(number, 3);
+            self.ask_substeps(number, false, 3);
         }
         self.second_halves_that_overflow();
         let number = self.add_gather(Call::on(vec![]));
-        self.ask_substeps(number, 2);
+        self.ask_substeps(number, false, 2);
     }
 
     /// A particle so heavy that psi times its mass is infinite: that is stored, and refused by the next substep.
@@ -474,7 +477,7 @@ impl Book {
                 call.particle_floats[PARTICLE_FLOATS + field] = float.to_bits();
             }
             let number = self.add_substeps(call, [0.1, 0.01][place % 2]);
-            self.ask_substeps(number, 3);
+            self.ask_substeps(number, false, 3);
         }
     }
 
@@ -570,7 +573,7 @@ mod tests {
     use super::by_hand;
     use super::*;
     use crate::rng::SEED;
-    use crate::vectors::format::{self, answered, rows, Question};
+    use crate::vectors::format::{self, answered, assert_calls_are_read_again, rows, Question};
     use std::collections::BTreeSet;
 
     /// The questions to the halves.
@@ -586,11 +589,7 @@ mod tests {
     #[test]
     fn every_call_is_read_again_and_every_particle_is_answered() {
         let sheet = make();
-        for (question, answer) in rows(&sheet).filter(|(question, _)| question[0] == "b") {
-            let call = Call::from_gather_fields(&question[2..]);
-            assert!(call.gather_fields().iter().eq(&question[2..]));
-            assert_eq!(answer, [call.node_words.len().to_string()]);
-        }
+        assert_calls_are_read_again(&sheet, Call::from_gather_fields, Call::gather_fields);
         for (half, call, answer) in questions(&sheet) {
             let particles = if answer[0] == "0" { call.particles as usize } else { 0 };
             assert_eq!(answer[2..].iter().map(|field| times(field)).sum::<usize>(), particles, "{} {:?}", half, &answer[..2]);
@@ -660,7 +659,7 @@ mod tests {
         let mut whole = 0;
         for seed in 0..400 {
             let call = Style::any(&mut rng).sample(&mut rng);
-            substeps::run(&call, seed, 2, |substep| {
+            substeps::run(&call, false, seed, 2, |substep| {
                 let answers = stages(substep);
                 if let [Ok((node_floats, node_words)), Ok(left), Ok(last)] = &answers[..] {
                     let nodes = (node_floats.clone(), node_words.clone());
@@ -689,7 +688,7 @@ mod tests {
                 "w" => {
                     let [number, seed, count] = [1, 2, 3].map(|place| question[place].parse::<usize>().unwrap());
                     let (mut substeps, mut lists, mut last) = (0, BTreeSet::new(), vec![]);
-                    let again = substeps::run(&calls[number], seed as u64, count, |substep| {
+                    let again = substeps::run(&calls[number], false, seed as u64, count, |substep| {
                         substeps += 1;
                         lists.insert(substep.call.ids.clone());
                         last = stages(substep);

@@ -3,8 +3,12 @@
 mod book;
 mod faults;
 mod floats;
+mod fluids;
 mod gather;
 mod grid;
+#[cfg(test)]
+mod hands;
+mod lengths;
 mod numeric;
 mod packing;
 mod scatter;
@@ -28,6 +32,8 @@ pub const ALL: &[Vectors] = &[
     Vectors { questions: "host/vectors/scatter.questions", answers: "host/vectors/scatter.answers", make: scatter::make },
     Vectors { questions: "host/vectors/update.questions", answers: "host/vectors/update.answers", make: update::make },
     Vectors { questions: "host/vectors/gather.questions", answers: "host/vectors/gather.answers", make: gather::make },
+    Vectors { questions: "host/vectors/fluids.questions", answers: "host/vectors/fluids.answers", make: fluids::make },
+    Vectors { questions: "host/vectors/lengths.questions", answers: "host/vectors/lengths.answers", make: lengths::make },
 ];
 
 impl Vectors {
@@ -141,6 +147,15 @@ mod format {
         found
     }
 
+    /// The calls of a sheet, whose fields `read` reads and `fields` writes again.
+    pub fn assert_calls_are_read_again(sheet: &Sheet, read: fn(&[&str]) -> Call, fields: fn(&Call) -> Vec<String>) {
+        for (question, answer) in rows(sheet).filter(|(question, _)| question[0] == "b") {
+            let call = read(&question[2..]);
+            assert!(fields(&call).iter().eq(&question[2..]));
+            assert_eq!(answer, [call.node_words.len().to_string()]);
+        }
+    }
+
     /// The indices that calls of these letters answer with each number, and how often.
     pub fn answered(sheet: &Sheet, letters: &str) -> BTreeMap<(String, u32), (usize, BTreeSet<u64>)> {
         let mut found: BTreeMap<(String, u32), (usize, BTreeSet<u64>)> = BTreeMap::new();
@@ -153,7 +168,8 @@ mod format {
     }
 
     /// How often each operation is asked. `kinds` has, for a question, a letter for each field behind its first and for each of
-    /// its answer: H and W upper case hex digits, 16 and 8, F such a W that is an f32 and no NaN but the written one, D a decimal.
+    /// its answer: H and W upper case hex digits, 16 and 8, F such a W that is an f32 and no NaN but the written one, D a decimal, and *
+    /// a W or so many of them in a row.
     pub fn counts(sheet: &Sheet, kinds: impl Fn(&[&str]) -> (String, String)) -> BTreeMap<String, usize> {
         let mut counts = BTreeMap::new();
         assert_eq!(sheet.questions.lines().count(), sheet.answers.lines().count());
@@ -182,6 +198,9 @@ mod format {
             'H' => field.len() == 16 && upper_hex,
             'W' => field.len() == 8 && upper_hex,
             'F' => is_of_kind(field, 'W') && (field == word(WRITTEN_NAN) || !is_nan(field)),
+            '*' => field
+                .split_once('*')
+                .map_or(is_of_kind(field, 'W'), |(one, count)| is_of_kind(one, 'W') && is_of_kind(count, 'D')),
             _ => field.parse::<u64>().map_or(false, |number| number.to_string() == field),
         }
     }

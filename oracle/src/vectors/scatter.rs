@@ -52,7 +52,7 @@ pub fn make() -> Sheet {
 }
 
 impl Book {
-    fn add(&mut self, call: Call) -> usize {
+    pub fn add(&mut self, call: Call) -> usize {
         let fields = call.fields();
         self.enter(call, fields)
     }
@@ -103,15 +103,7 @@ fn nodes(which: &Which, call: &Call) -> Vec<String> {
 
 /// Document 01's listing: one particle of mass 64 at (1, 1) with the velocity (1, 0).
 fn listing() -> Call {
-    let mut call = Call::on(vec![0]);
-    call.ranges = vec![0, 1];
-    call.particles = 1;
-    call.particle_floats = vec![0; PARTICLE_FLOATS];
-    call.particle_words = vec![0; PARTICLE_WORDS];
-    for (place, float) in [(0, 1.0), (1, 1.0), (2, 1.0), (MASS, 64.0), (VOLUME, 1.0)] {
-        call.particle_floats[place] = f32::to_bits(float);
-    }
-    call
+    Call::of_one(&[(0, 1.0), (1, 1.0), (2, 1.0), (MASS, 64.0), (VOLUME, 1.0)], &[])
 }
 
 /// What is asked of each field by itself: zeros, the least and the largest.

@@ -549,7 +549,7 @@ impl Book {
 mod tests {
     use super::*;
     use crate::rng::SEED;
-    use crate::vectors::format::{self, answered, rows, Question};
+    use crate::vectors::format::{self, answered, assert_calls_are_read_again, Question};
     use samples::{plane, Boundary};
 
     fn questions(sheet: &Sheet) -> Vec<Question> {
@@ -559,11 +559,7 @@ mod tests {
     #[test]
     fn every_call_is_read_again_and_every_node_is_answered() {
         let sheet = make();
-        for (question, answer) in rows(&sheet).filter(|(question, _)| question[0] == "b") {
-            let call = Call::from_bounded_fields(&question[2..]);
-            assert!(call.bounded_fields().iter().eq(&question[2..]));
-            assert_eq!(answer, [call.node_words.len().to_string()]);
-        }
+        assert_calls_are_read_again(&sheet, Call::from_bounded_fields, Call::bounded_fields);
         for (operation, call, answer) in questions(&sheet) {
             let nodes = if answer[0] == "0" { call.node_words.len() } else { 0 };
             assert_eq!(answer.len(), 2 + nodes, "{} {:?}", operation, &answer[..2]);

@@ -1,14 +1,17 @@
-//! The calls that a scatter's, an update's or a gather's call can be made of, on slices. Every test has those that it needs.
+//! The calls of every stage that a call's lists can be lent to, on slices, and those of a step's lengths. Every test has those that it
+//! needs.
 #![allow(dead_code)]
 
 use mangerknot_sys::*;
+use samples::lengths::Step;
 use samples::substeps::Stage;
 use samples::Call;
 use std::mem::take;
 
-/// Which call it is: the scatter of all regions, of the one at a place, or of all in an order of places; the update; clear, scatter and
-/// update in one; or a half of the gather.
+/// Which call it is: clear; the scatter of all regions, of the one at a place, or of all in an order of places; the update; clear, scatter
+/// and update in one; a half of the gather; or the recomputation of fluids' volumes.
 pub enum Which<'a> {
+    Clear,
     All,
     Region(usize),
     Order(&'a [u64]),
@@ -16,18 +19,25 @@ pub enum Which<'a> {
     Sequence,
     FirstHalf,
     SecondHalf,
+    Fluids,
 }
 
 impl Which<'_> {
-    /// The halves of a gather write particles, all others nodes.
+    /// The halves of a gather write particles, all others nodes, and the recomputation of fluids both.
     pub fn writes_particles(&self) -> bool {
-        matches!(self, Which::FirstHalf | Which::SecondHalf)
+        matches!(self, Which::FirstHalf | Which::SecondHalf | Which::Fluids)
+    }
+
+    pub fn writes_nodes(&self) -> bool {
+        !matches!(self, Which::FirstHalf | Which::SecondHalf)
     }
 }
 
 impl From<Stage> for Which<'_> {
     fn from(stage: Stage) -> Self {
         match stage {
+            Stage::Clear => Which::Clear,
+            Stage::Fluids => Which::Fluids,
             Stage::Sequence => Which::Sequence,
             Stage::FirstHalf => Which::FirstHalf,
             Stage::SecondHalf => Which::SecondHalf,
@@ -55,6 +65,9 @@ pub struct Lists<'a> {
 macro_rules! pass_on {
     ($call:ident $lists:ident $function:ident [$($done:expr),*]) => {
         unsafe { $function($($done),*) }
+    };
+    ($call:ident $lists:ident $function:ident [$($done:expr),*] width $($rest:tt)*) => {
+        pass_on!($call $lists $function [$($done,)* $call.cell_width] $($rest)*)
     };
     ($call:ident $lists:ident $function:ident [$($done:expr),*] width_and_dt $($rest:tt)*) => {
         pass_on!($call $lists $function [$($done,)* $call.cell_width, $call.dt] $($rest)*)
@@ -104,6 +117,7 @@ pub fn answer(which: &Which, call: &Call, lists: Lists) -> Refusal {
         };
     }
     match *which {
+        Which::Clear => pass_on!(call lists mk_clear2 [] regions (mut node_floats) (mut node_words)),
         Which::All => scatter!(mk_particle_to_grid_scatter2 []),
         Which::Region(place) => scatter!(mk_particle_to_grid_scatter_region2[place]),
         Which::Order(order) => scatter!(mk_scatter_in_order2 [order.as_ptr(), order.len()]),
@@ -121,6 +135,19 @@ pub fn answer(which: &Which, call: &Call, lists: Lists) -> Refusal {
         Which::SecondHalf => pass_on!(
             call lists mk_grid_to_particle_second_half2 [] written_particles (given_floats) (given_words)
         ),
+        Which::Fluids => pass_on!(
+            call lists mk_recompute_fluids_volumes2 []
+            width regions (ranges) written_particles (mut node_floats) (mut node_words)
+        ),
+    }
+}
+
+/// The archive's answer to a step, which is lent these proposals.
+pub fn lengths(step: &Step, dts: &[u32]) -> Lengths {
+    let Step { total, max_substep_dt, max_num_substeps, stop_after_one_substep, proposals, .. } = *step;
+    let (proposals, dts_len) = (proposals as usize, dts.len());
+    unsafe {
+        mk_step_lengths(total, max_substep_dt, max_num_substeps, stop_after_one_substep, proposals, dts.as_ptr().cast(), dts_len)
     }
 }
 

@@ -1,15 +1,26 @@
-//! Calls on lent memory between guards, of which every word is looked at afterwards.
+//! Calls on lent memory between guards, of which every word is looked at afterwards. Every test has those that it needs.
+#![allow(dead_code)]
 
 use crate::archive::{self, Lists, Which};
 use crate::lent::Lent;
 use crate::replay::{decimal, replay};
 use mangerknot_sys::Refusal;
 use samples::lines::Edit;
+use samples::substeps::{Answer, Stage};
 use samples::{Boundary, Call, Gather, Records};
 
-/// What a call answers, and afterwards what it writes: the particles for a half of the gather, else the nodes. Whatever else was lent is
-/// as it was, and so is this where the call is refused.
+/// The particles and the nodes after a call.
+pub type Both = [Records; 2];
+
+/// What a call answers, and afterwards what it writes: the particles for a half of the gather and for the recomputation of fluids, else the
+/// nodes.
 pub fn ask(which: &Which, call: &Call) -> (Refusal, Records) {
+    let (refusal, [particles, nodes]) = ask_for_both(which, call);
+    (refusal, if which.writes_particles() { particles } else { nodes })
+}
+
+/// What a call answers, and afterwards particles and nodes. Whatever it does not write is as it was, and so is all where it is refused.
+pub fn ask_for_both(which: &Which, call: &Call) -> (Refusal, Both) {
     let (wide, narrow) = ([u64::MAX, 0], [0x7f80_0001, 0xffff_ffff]);
     let lend = |words: &[u32]| Lent::of(words, narrow);
     let order: &[u64] = if let Which::Order(order) = which { order } else { &[] };
@@ -42,14 +53,24 @@ pub fn ask(which: &Which, call: &Call) -> (Refusal, Records) {
             _ => archive::answer(which, call, lists),
         }
     };
-    let (mut written, kept) = if which.writes_particles() { (particles, nodes) } else { (nodes, particles) };
-    assert!(wide_lists.iter().all(Lent::is_kept) && given.iter().chain(&kept).all(Lent::is_kept));
-    assert!(written.iter().all(Lent::guards_are_kept));
-    if refusal.number != 0 {
-        assert!(written.iter().all(Lent::is_kept), "refused by {}, and not every word is as it was", refusal.number);
+    assert!(wide_lists.iter().all(Lent::is_kept) && given.iter().all(Lent::is_kept));
+    for (records, may_be_written) in [(&particles, which.writes_particles()), (&nodes, which.writes_nodes())] {
+        let is_kept = if may_be_written && refusal.number == 0 { Lent::guards_are_kept } else { Lent::is_kept };
+        assert!(records.iter().all(is_kept), "answered {}, and not every word is as it has to be", refusal.number);
     }
-    let [floats, words] = &mut written;
-    (refusal, (floats.lent().to_vec(), words.lent().to_vec()))
+    (refusal, [particles, nodes].map(|[mut floats, mut words]| (floats.lent().to_vec(), words.lent().to_vec())))
+}
+
+/// What a stage of a substep leaves. The recomputation of fluids leaves nodes as they were that have no mass.
+pub fn stage(stage: Stage, call: &Call) -> Answer {
+    let which = Which::from(stage);
+    let (Refusal { number, index }, [particles, nodes]) = ask_for_both(&which, call);
+    assert!(stage != Stage::Fluids || nodes == (call.node_floats.clone(), call.node_words.clone()));
+    match number {
+        0 if stage.leaves_particles() => Ok(particles),
+        0 => Ok(nodes),
+        number => Err((number, index)),
+    }
 }
 
 /// What a call writes that has to be done.
@@ -59,11 +80,11 @@ pub fn done(which: &Which, call: &Call) -> Records {
     records
 }
 
-/// The archive's answer to a question about a call with changes; what one that is done writes is put in fields by `written`.
-pub fn answer(which: &Which, call: &Call, edits: &[&str], written: impl FnOnce(&Call, &Records) -> Vec<String>) -> String {
+/// The archive's answer to a question about a call with changes; what one that is done leaves is put in fields by `written`.
+pub fn answer(which: &Which, call: &Call, edits: &[&str], written: impl FnOnce(&Call, &Both) -> Vec<String>) -> String {
     let edits: Vec<Edit> = edits.iter().map(|edit| edit.parse().expect("a change")).collect();
     let call = call.edited(&edits);
-    let (Refusal { number, index }, records) = ask(which, &call);
+    let (Refusal { number, index }, records) = ask_for_both(which, &call);
     let mut fields = vec![number.to_string(), index.to_string()];
     if number == 0 {
         fields.extend(written(&call, &records));

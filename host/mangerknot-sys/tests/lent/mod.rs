@@ -1,4 +1,5 @@
-//! Memory to lend to a call, of which every word is looked at afterwards.
+//! Memory to lend to a call, of which every word is looked at afterwards. Every test has of this what it needs.
+#![allow(dead_code)]
 
 /// Words that no call may touch, in front of those that are lent and behind them; three of 4 bytes, so that what is lent is
 /// aligned as it has to be and no better.

@@ -1,47 +1,8 @@
 //! Document 01's gather once more, by hand and in plain Rust, or with one thing wrong about it.
 
+use crate::vectors::hands::{each, shifts, weights, Body, Pair, Square};
 use samples::particle::*;
-use samples::{plane, Call, Records, GIVEN_FLOATS, NODE_FLOATS, PARTICLE_FLOATS, PARTICLE_WORDS, REGION_NODES};
-
-type Pair = [f32; 2];
-type Square = [[f32; 2]; 2];
-
-/// A particle's numbers and flags.
-struct Body {
-    floats: Vec<f32>,
-    words: Vec<u32>,
-}
-
-impl Body {
-    fn is(&self, flag: usize) -> bool {
-        self.words[flag] == 1
-    }
-
-    fn pair(&self, place: usize) -> Pair {
-        [self.floats[place], self.floats[place + 1]]
-    }
-
-    fn square(&self, place: usize) -> Square {
-        [self.pair(place), self.pair(place + 2)]
-    }
-
-    fn set(&mut self, place: usize, parts: &[f32]) {
-        self.floats[place..][..parts.len()].copy_from_slice(parts);
-    }
-}
-
-/// The call's particles, each changed.
-fn each(call: &Call, mut change: impl FnMut(usize, &mut Body)) -> Records {
-    let bits = call.particle_floats.chunks_exact(PARTICLE_FLOATS);
-    let words = call.particle_words.chunks_exact(PARTICLE_WORDS);
-    let bodies = bits.zip(words).enumerate().map(|(place, (bits, words))| {
-        let mut body = Body { floats: bits.iter().copied().map(f32::from_bits).collect(), words: words.to_vec() };
-        change(place, &mut body);
-        (body.floats.into_iter().map(f32::to_bits).collect::<Vec<u32>>(), body.words)
-    });
-    let (floats, words): (Vec<_>, Vec<_>) = bodies.unzip();
-    (floats.concat(), words.concat())
-}
+use samples::{Call, Records, GIVEN_FLOATS, NODE_FLOATS};
 
 fn dot(a: Pair, b: Pair) -> f32 {
     a[0] * b[0] + a[1] * b[1]
@@ -71,9 +32,6 @@ fn inverse(e: f32) -> f32 {
     }
 }
 
-/// The stencil's shifts, in document 01's order.
-const SHIFTS: [[usize; 2]; 9] = [[2, 2], [2, 0], [2, 1], [0, 2], [0, 0], [0, 1], [1, 2], [1, 0], [1, 1]];
-
 /// v, G, p and D of a particle.
 struct Sums {
     v: Pair,
@@ -84,15 +42,9 @@ struct Sums {
 
 fn sums(call: &Call, body: &Body, wrong: &str) -> Sums {
     let h = call.cell_width;
-    let position = body.pair(POSITION);
-    let r = plane::nearest(position, h);
-    let first = plane::first_cell(position, h).expect("an accepted particle");
-    let way = [0, 1].map(|axis| (r[axis] - 1.0) * h - position[axis]);
+    let way = body.way(h);
     let inv = if wrong == "inv by two quotients" { 4.0 / h / h } else { 4.0 / (h * h) };
-    let weights = way.map(|way| {
-        let t = if wrong == "weights of the node" { way / h } else { -way / h };
-        [0.5 * ((1.5 - t) * (1.5 - t)), 0.75 - (t - 1.0) * (t - 1.0), 0.5 * ((t - 0.5) * (t - 0.5))]
-    });
+    let weights = way.map(|way| weights(if wrong == "weights of the node" { way / h } else { -way / h }));
     let zero = if wrong == "sums from -0" { -0.0 } else { 0.0 };
     let mut found = Sums { v: [zero; 2], g: [[zero; 2]; 2], p: zero, d: zero };
     if wrong == "v from the old v" {
@@ -101,14 +53,7 @@ fn sums(call: &Call, body: &Body, wrong: &str) -> Sums {
     if wrong == "G from the old G" {
         found.g = body.square(GRADIENT);
     }
-    let mut shifts = SHIFTS;
-    match wrong {
-        "stencil backwards" => shifts.reverse(),
-        "stencil by rows" => shifts.sort_by_key(|[x, y]| 3 * y + x),
-        "stencil by columns" => shifts.sort_unstable(),
-        _ => {}
-    }
-    for shift in shifts {
+    for shift in shifts(wrong) {
         let [x, y] = if wrong == "weights exchanged" { [shift[1], shift[0]] } else { shift };
         let w = weights[0][x] * weights[1][y];
         let dpt = match wrong {
@@ -116,9 +61,7 @@ fn sums(call: &Call, body: &Body, wrong: &str) -> Sums {
             "dpt in cells" => [0, 1].map(|axis| way[axis] + shift[axis] as f32),
             _ => [0, 1].map(|axis| way[axis] + shift[axis] as f32 * h),
         };
-        let cell = [first[0] + shift[0] as u32, first[1] + shift[1] as u32];
-        let region = call.ids.binary_search(&plane::region(cell)).expect("a listed region");
-        let node = &call.node_floats[(region * REGION_NODES + plane::number_in_region(cell)) * NODE_FLOATS..][..NODE_FLOATS];
+        let node = &call.node_floats[body.node(shift, call) * NODE_FLOATS..][..NODE_FLOATS];
         let at = |place: usize| f32::from_bits(node[place]);
         let u = if wrong == "momentum for velocity" { [at(1), at(2)] } else { [at(3), at(4)] };
         let (momentum, mass) = (at(5), at(6));
