@@ -1,8 +1,8 @@
 // A line of vectors as a question: a letter for the operation, and up to five fields, each a tab and
 // the eight digits of an f32's bits or of a u32.
-use vectors::Number;
-use vectors::hex;
-use vectors::low;
+use fields::Number;
+use fields::hex;
+use fields::low;
 
 // A question, or that a line is none. A field that the operation does not have is 0.
 pub enum Question {

@@ -4,9 +4,9 @@
 mod answer;
 mod question;
 
+use fields::out::put_byte;
 use question::Question;
 use replay::Input;
-use vectors::out::put_byte;
 
 fn main() {
     let mut space = [0u8; 65536];

@@ -1,8 +1,8 @@
 // A line of vectors as a question: an operation, one letter and one digit, and up to three fields.
-use vectors::Number;
-use vectors::decimal;
-use vectors::find;
-use vectors::hex;
+use fields::Number;
+use fields::decimal;
+use fields::find;
+use fields::hex;
 
 // A question, or that a line is none.
 pub enum Question {

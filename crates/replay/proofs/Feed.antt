@@ -8,7 +8,7 @@ use lib.ListN.{length, take, drop, getD, length-take, length-drop}
 use lib.Seq.{getD-drop, getD-take}
 use lib.Dec.{eqb}
 use borrow.Author.Tests.{eqb-true}
-use Rattle.vectors.specs.Read.{before, placeOf}
+use Rattle.fields.specs.Read.{before, placeOf}
 use Rattle.replay.specs.declared.Place.{Place}
 use Rattle.replay.specs.Lines.{Held}
 

@@ -5,7 +5,7 @@ use mathlib.Core.Bool.{false}
 use mathlib.Core.List.{List}
 use lib.ListN.{length, take}
 use lib.Seq.{slice}
-use Rattle.vectors.specs.Read.{placeOf, beginsWith}
+use Rattle.fields.specs.Read.{placeOf, beginsWith}
 use Rattle.replay.specs.declared.Place.{Place}
 use Rattle.replay.specs.declared.Input.{Input}
 use Rattle.replay.specs.declared.Input.the-variants.{Line, End}

@@ -1,17 +1,17 @@
 // Standard input line by line, and answers to standard output, for the programs that replay vectors.
+use fields::find;
+use fields::lines::begins;
+use fields::lines::shift;
+use fields::out::put_byte;
 use libc::STDIN_FILENO;
 use libc::STDOUT_FILENO;
-use vectors::find;
-use vectors::lines::begins;
-use vectors::lines::shift;
-use vectors::out::put_byte;
 ghost use mathlib.Core.Path.{_≡_};
 ghost use mathlib.Core.List.{_∷_, []};
 ghost use Prim.Native.Nat.{_≤_, _<_};
 ghost use lib.ListN.{length};
 ghost use lib.Seq.{slice};
-ghost use Rattle.vectors.specs.Read.{beginsWith};
-ghost use Rattle.vectors.specs.Write.{putAt};
+ghost use Rattle.fields.specs.Read.{beginsWith};
+ghost use Rattle.fields.specs.Write.{putAt};
 ghost use Rattle.replay.specs.Lines.{first, Holds, Question};
 
 // A line of a buffer, from one place up to another, where the next one begins, how many of the
