@@ -19,6 +19,7 @@ use Rattle.grid.proofs.Lengths.{clear-held}
 use Rattle.scatter.specs.Hit.{changed}
 use Rattle.scatter.specs.Scatter.{scattered, regionScattered, placeCheck, scatterCheck}
 use Rattle.scatter.proofs.Checking.{ready, region-ready}
+use Rattle.scatter.proofs.Clearing.{counted}
 use Rattle.scatter.proofs.Scattering.{scatter-laws, region-laws}
 use Rattle.update.specs.Update.{updated, updateCheck, Zero}
 use Rattle.update.proofs.Updating as Updating
@@ -27,7 +28,7 @@ use Rattle.fluids.proofs.Recomputing as Recomputing
 use Rattle.solver.specs.Clearing.{Call, Scatter, Fluids, answer, made, left, after, stencilId, nodeId, Reaches, Reached, stepCheck, stepped, EmptyElsewhere, Demand2}
 use Rattle.solver.specs.Clearing.Call.{clearing, scattering, scatteringRegion, scatteringInOrder, updating, inTurn, gatheringFirst, gatheringSecond, recomputing}
 use Rattle.solver.proofs.Missing.{missed, region-missed}
-use Rattle.solver.proofs.Stepping.{counted, apart-done, step-done}
+use Rattle.solver.proofs.Stepping.{apart-done, step-done}
 use Rattle.solver.proofs.Turning.{turned}
 
 module _ (ids : List ℕ) (r c : ℕ) (l : r < length ids) (u : c < regionCells) where
