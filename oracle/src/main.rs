@@ -1,5 +1,6 @@
 //! Asks the handed-over Rust and writes its answers down (`write`), or holds the answers written down against it (`check`).
 
+mod listing;
 mod reading;
 mod rng;
 mod sha256;
@@ -9,7 +10,7 @@ use std::path::{Path, PathBuf};
 use std::process::ExitCode;
 use std::{env, fs, io};
 
-const USAGE: &str = "usage: oracle write [--root DIR]   makes every vectors file
+const USAGE: &str = "usage: oracle write [--root DIR]   makes every vectors file and every example
        oracle check [--root DIR]   makes them again in memory and compares; status 1 on any difference
 DIR is the repository's root; without it, the one this program was built in.";
 
@@ -33,9 +34,9 @@ fn built_in() -> PathBuf {
     Path::new(env!("CARGO_MANIFEST_DIR")).join("..")
 }
 
-/// Every vectors file's path in the repository and its text as the Rust gives it now.
+/// The path in the repository of every vectors file, and of every example of the bench listing, and its text as the Rust gives it now.
 fn files() -> impl Iterator<Item = (String, String)> {
-    vectors::ALL.iter().flat_map(|vectors| vectors.files())
+    vectors::ALL.iter().flat_map(|vectors| vectors.files()).chain(vectors::examples())
 }
 
 fn write(root: &Path) -> ExitCode {

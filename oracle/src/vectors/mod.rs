@@ -9,6 +9,7 @@ mod grid;
 #[cfg(test)]
 mod hands;
 mod lengths;
+mod listing;
 mod numeric;
 mod packing;
 mod scatter;
@@ -16,6 +17,7 @@ mod update;
 
 use crate::rng::SEED;
 use crate::sha256::hex_digest;
+pub use listing::examples;
 use std::collections::HashSet;
 
 /// Two files of the repository, and what makes them.
@@ -34,6 +36,7 @@ pub const ALL: &[Vectors] = &[
     Vectors { questions: "host/vectors/gather.questions", answers: "host/vectors/gather.answers", make: gather::make },
     Vectors { questions: "host/vectors/fluids.questions", answers: "host/vectors/fluids.answers", make: fluids::make },
     Vectors { questions: "host/vectors/lengths.questions", answers: "host/vectors/lengths.answers", make: lengths::make },
+    Vectors { questions: "host/vectors/listing.questions", answers: "host/vectors/listing.answers", make: listing::make },
 ];
 
 impl Vectors {

@@ -102,7 +102,7 @@ fn nodes(which: &Which, call: &Call) -> Vec<String> {
 // Calls that are done.
 
 /// Document 01's listing: one particle of mass 64 at (1, 1) with the velocity (1, 0).
-fn listing() -> Call {
+pub fn listing() -> Call {
     Call::of_one(&[(0, 1.0), (1, 1.0), (2, 1.0), (MASS, 64.0), (VOLUME, 1.0)], &[])
 }
 
