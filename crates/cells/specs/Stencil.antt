@@ -1,7 +1,7 @@
 -- Document 01, "Float rules" and "Scatter": how the nodes of a particle's stencil lie to it, and what they weigh. Vectors are lists, an entry an axis, so that the plane and
 -- space share each definition. Definitions only.
 use mathlib.Core.List.{List, [], _∷_, map}
-use Prim.Native.Nat.{ℕ, suc, _^_}
+use Prim.Native.Nat.{ℕ, suc, _+_, _%_, _^_}
 use lib.Ieee.{Float, nan}
 use lib.ListN.{getD}
 use Rattle.packing.specs.Ids.{Dim}
@@ -17,6 +17,10 @@ stencilCells = 3 ^ 2
 -- the shift of the cell at a place of the stencil, a number an axis
 abbrev pub shiftAt : Dim → ℕ → List ℕ
 shiftAt d k = getD (d .shifts) k []
+
+-- the shifts along one axis, in their order: 2, 0, 1
+abbrev pub stepAt : ℕ → ℕ
+stepAt i = (i + 2) % 3
 
 -- With r = round(x/h): d = (r-1)·h - x.
 unfoldable pub dirToAssociatedGridNode : Float → List Float → List Float

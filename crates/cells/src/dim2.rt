@@ -59,7 +59,7 @@ fn coord(cell_width: f32, x: f32) -> u32
 }
 
 // The coordinate before; before 0 comes the last one.
-fn one_off(c: u32) -> u32
+pub(crate) fn one_off(c: u32) -> u32
     ensures { λ r. ⌜ r ≡ oneOff c ⌝ }
 {
     std::num::wrapping_sub_u32(c, 1)

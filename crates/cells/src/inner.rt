@@ -2,45 +2,54 @@
 ghost use mathlib.Core.Path.{_≡_};
 ghost use mathlib.Core.List.{[], _∷_};
 ghost use Prim.Native.Nat.{_<_};
-ghost use Rattle.packing.specs.Ids.{dim2};
-ghost use Rattle.cells.specs.Stencil.{stencilCells, shiftAt, dirToAssociatedGridNode, dptOf, weightOf};
+ghost use Rattle.numeric.specs.Round.{castU32};
+ghost use Rattle.cells.specs.Cells.{nearest, oneOff};
+ghost use Rattle.cells.specs.Stencil.{stepAt, dirToAssociatedGridNode, dptOf, weightOf};
+use crate::dim2::one_off;
 use numeric::dim2::Point;
 use numeric::dim2::Vector;
 use packing::dim2::Cell;
 
-pub const STENCIL_CELLS: usize = 9;
+// The nodes of a stencil along an axis.
+pub const STENCIL_SIDE: u32 = 3;
 
-pub const NBH_SHIFTS: [[u32; 2]; 9] = [
-    [2, 2],
-    [2, 0],
-    [2, 1],
-    [0, 2],
-    [0, 0],
-    [0, 1],
-    [1, 2],
-    [1, 0],
-    [1, 1],
-];
-
-// From a particle to the first node of its stencil.
-pub fn dir_to_associated_grid_node(cell_width: f32, position: Point) -> Vector
-    ensures { λ r. ⌜ r .x ∷ r .y ∷ [] ≡ dirToAssociatedGridNode «cell_width» (position .x ∷ position .y ∷ []) ⌝ }
+// Where a point lies, in cells: the nearest whole number on each axis.
+pub fn nearest(cell_width: f32, pt: Point) -> Point
+    ensures { λ r. ⌜ r .x ∷ r .y ∷ [] ≡ nearest «cell_width» (pt .x) ∷ nearest «cell_width» (pt .y) ∷ [] ⌝ }
 {
-    Vector {
-        x: (numeric::round(position.x / cell_width) - 1.0) * cell_width - position.x,
-        y: (numeric::round(position.y / cell_width) - 1.0) * cell_width - position.y,
+    Point {
+        x: numeric::round(pt.x / cell_width),
+        y: numeric::round(pt.y / cell_width),
     }
 }
 
-// By how many cells the node at place k of a stencil lies beyond the first.
-pub fn nbh_shift(k: usize) -> Cell
-    requires { ⌜ k < stencilCells ⌝ }
-    ensures { λ r. ⌜ (r .x ∷ r .y ∷ [] ≡ shiftAt dim2 k) × (r .x < 3) × (r .y < 3) ⌝ }
+// From a particle, which lies `near` there in cells, to the first node of its stencil.
+pub fn dir_to_associated_grid_node(cell_width: f32, near: Point, position: Point) -> Vector
+    requires { ⌜ near .x ∷ near .y ∷ [] ≡ nearest «cell_width» (position .x) ∷ nearest «cell_width» (position .y) ∷ [] ⌝ }
+    ensures { λ r. ⌜ r .x ∷ r .y ∷ [] ≡ dirToAssociatedGridNode «cell_width» (position .x ∷ position .y ∷ []) ⌝ }
+{
+    Vector {
+        x: (near.x - 1.0) * cell_width - position.x,
+        y: (near.y - 1.0) * cell_width - position.y,
+    }
+}
+
+// The coordinates of that node's cell.
+pub fn first_cell(near: Point) -> Cell
+    ensures { λ r. ⌜ r .x ∷ r .y ∷ [] ≡ oneOff (castU32 (near .x)) ∷ oneOff (castU32 (near .y)) ∷ [] ⌝ }
 {
     Cell {
-        x: NBH_SHIFTS[k][0],
-        y: NBH_SHIFTS[k][1],
+        x: one_off(numeric::to_u32(near.x)),
+        y: one_off(numeric::to_u32(near.y)),
     }
+}
+
+// By how many cells the i-th node along an axis lies beyond the first: a table would be laid out anew at each use.
+pub fn step(i: u32) -> u32
+    requires { ⌜ i < 3 ⌝ }
+    ensures { λ r. ⌜ (r ≡ stepAt i) × (r < 3) ⌝ }
+{
+    (i + 2) % 3
 }
 
 // From the particle to the node at a shift.

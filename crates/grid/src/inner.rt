@@ -8,7 +8,7 @@ ghost use lib.ListN.{length};
 ghost use Rattle.laws.specs.Store.{store};
 ghost use Rattle.grid.specs.Answers.{unless};
 ghost use Rattle.grid.specs.Nodes.{nodeFloats, nodeWords, nodeAt, putNode, emptyNode};
-ghost use Rattle.grid.specs.Table.{all, matches, nodeLengths, limits, finite, goodWidth, goodStep, called, flags, numbers, badRegion, regionIds, rangeWords, cover};
+ghost use Rattle.grid.specs.Table.{all, matches, nodeLengths, limits, finite, goodWidth, goodStep, called, flags, numbers, badRegion, regionIds, rangeWords, startOf, countOf, cover};
 use crate::Answer;
 use crate::Rule;
 use crate::grid_node::CELLS_OF_REGION;
@@ -25,6 +25,21 @@ pub const MAX_COLLIDERS: usize = 16;
 
 // A region's start and count.
 pub const RANGE_WORDS: usize = 2;
+
+// Where a region's particles begin, and how many they are.
+pub fn start_of(ranges: &[u64], place: usize) -> usize
+    requires { ⌜ place * rangeWords + rangeWords ≤ length (now ranges) ⌝ }
+    ensures { λ r. ⌜ r ≡ startOf (now (ranges .entry)) place ⌝ }
+{
+    ranges[place * RANGE_WORDS] as usize
+}
+
+pub fn count_of(ranges: &[u64], place: usize) -> usize
+    requires { ⌜ place * rangeWords + rangeWords ≤ length (now ranges) ⌝ }
+    ensures { λ r. ⌜ r ≡ countOf (now (ranges .entry)) place ⌝ }
+{
+    ranges[place * RANGE_WORDS + 1] as usize
+}
 
 // A node that nothing has reached.
 pub fn empty() -> GridNode

@@ -80,10 +80,10 @@ distinct-map f (x ∷ l) h u = (
 )
 
 -- what stands at a place of a mapped list
-at-map : (f : ℕ → ℕ) (l : List ℕ) (k : ℕ) → k < length l → getD (map f l) k 0 ≡ f (getD l k 0)
-at-map f [] k h = absurd (not-suc-le-zero h)
-at-map f (x ∷ l) zero h = refl
-at-map f (x ∷ l) (suc k) h = at-map f l k (le-of-suc-le-suc h)
+pub at-map : {A : Type 0} (f : A → ℕ) (d : A) (l : List A) (k : ℕ) → k < length l → getD (map f l) k 0 ≡ f (getD l k d)
+at-map f d [] k h = absurd (not-suc-le-zero h)
+at-map f d (x ∷ l) zero h = refl
+at-map f d (x ∷ l) (suc k) h = at-map f d l k (le-of-suc-le-suc h)
 
 -- ---- regions as numbers
 
@@ -123,7 +123,7 @@ module _ (d : Dim) (g : Good d) where
   axes = axes-of (d .sumAxes) (g .cuts)
 
   -- cells with equal coordinates are equal
-  by-coords : {i j : ℕ} → IsCell d i → IsCell d j → coords (d .sumAxes) i ≡ coords (d .sumAxes) j → i ≡ j
+  pub by-coords : {i j : ℕ} → IsCell d i → IsCell d j → coords (d .sumAxes) i ≡ coords (d .sumAxes) j → i ≡ j
   by-coords {i} {j} p q e = sym p ∙ sym (again (d .sumAxes) i) ∙ ap (packed (d .sumAxes)) e ∙ again (d .sumAxes) j ∙ q
 
   pub is-packed : (cs : List ℕ) → IsCell d (packed (d .sumAxes) cs)
@@ -200,6 +200,10 @@ module _ (d : Dim) (g : Good d) where
   number-of : (r n : ℕ) → number d (cellOf d r n) ≡ n % 4 ^ length (d .sumAxes)
   unfolding number
   number-of r n = ap fromFours (cell-of r n) ∙ R.numbers (d .sumAxes) axes r n
+
+  number-sum : (r x : ℕ) → number d (sum d (region r) x) ≡ number d x
+  unfolding number
+  number-sum r x = ap fromFours (reads (region r) x) ∙ R.low-sums (d .sumAxes) axes r x
 
   -- an id whose coordinates lie in the first block is in region 0
   in-first : (cs : List ℕ) → map floor (wrapped (d .sumAxes) cs) ≡ coords (d .sumAxes) 0 → region (packed (d .sumAxes) cs) ≡ 0
@@ -487,5 +491,7 @@ module _ (d : Dim) (g : Good d) where
         apart = one-colour;
         differ = λ {i} p. stencil-differs i;
         cells = cells;
-        inOrder = λ i. at-map (sum d i) (packedShifts d);
+        inOrder = λ i. at-map (sum d i) 0 (packedShifts d);
+        moved = region-sum;
+        numbered = number-sum;
       }

@@ -1,23 +1,23 @@
 -- The laws of every mask, and those of 2D and 3D, where what is left is computed of the masks and shifts.
 -- Assumes nothing.
 use mathlib.Core.Path.{_≡_, refl, sym, ap, ap₂, _∙_, subst}
-use mathlib.Core.List.{List}
-use Prim.Native.Nat.{ℕ, _+_, _/_, _%_, _^_, _<_}
+use mathlib.Core.List.{List, [], _∷_, map}
+use Prim.Native.Nat.{ℕ, _+_, _*_, _/_, _%_, _^_, _<_}
 use native.Mathlib.Nat.{mod-eq-of-lt, mod-mod, mod-lt}
 use native.Mathlib.Omega.{arith}
 use lib.Bits.{bitAnd}
-use lib.ListN.{length}
-use Rattle.packing.specs.Mask.{Mask, num, count, coord, place, bits, axisSum, coords, whole, packed, below}
-use Rattle.packing.specs.Ids.{dim2, dim3, packedId, packedShifts, stencilOf, number, fromFours, colour}
+use lib.ListN.{length, getD}
+use Rattle.packing.specs.Mask.{Mask, num, count, coord, place, bits, axisSum, coords, whole, packed, below, wrapped, sums}
+use Rattle.packing.specs.Ids.{dim2, dim3, packedId, sum, region, cellOf, packedShifts, stencilOf, number, fromFours, toFours, colour}
 use Rattle.packing.specs.Neighbours.{IsCell}
 use Rattle.packing.specs.Laws.{OfMask, OfSum, Laws}
 use Rattle.packing.proofs.Linear.{run, alike}
-use Rattle.packing.proofs.Group.{coord-place, place-coord, coord-lt, apart, fromAll, disjoint}
+use Rattle.packing.proofs.Group.{coord-place, place-coord, coord-lt, apart, fromAll, disjoint, back}
 use Rattle.packing.proofs.Sum.{place-mod, num-bits}
 use Rattle.packing.proofs.Axis.{cut}
 use Rattle.packing.proofs.Shifts.{just, all-in, has, same-list, grid}
-use Rattle.packing.proofs.Regions.{allCut, zeros}
-use Rattle.packing.proofs.Cells.{Good, leads, allDiffer, absent, is-packed, laws-of}
+use Rattle.packing.proofs.Regions.{allCut, zeros, axes-of, floor, floors}
+use Rattle.packing.proofs.Cells.{Good, leads, allDiffer, absent, is-packed, by-coords, at-map, laws-of}
 
 pub of-mask : (m : Mask) → OfMask m
 of-mask m = record { back = coord-place m; again = place-coord m }
@@ -81,3 +81,59 @@ stencils2 i = refl
 pub shifts2-long : length (packedShifts dim2) ≡ 9
 unfolding packedShifts dim2
 shifts2-long = refl
+
+-- ---- in 2D: what is packed, by its coordinates
+
+-- 28 digits of each are kept
+kept2 : (x y : ℕ) → coords (dim2 .sumAxes) (packedId dim2 (x ∷ y ∷ [])) ≡ x % 2 ^ 28 ∷ y % 2 ^ 28 ∷ []
+unfolding packedId dim2 wrapped count
+kept2 x y = back (dim2 .axes) (good2 .packs) (x ∷ y ∷ [])
+
+pub number-packed2 : (x y : ℕ) → number dim2 (packedId dim2 (x ∷ y ∷ [])) ≡ x % 4 + 4 * (y % 4)
+unfolding number fromFours
+number-packed2 x y = ap fromFours (kept2 x y) ∙ omega arith
+
+pub region-packed2 : (x y : ℕ) → region (packedId dim2 (x ∷ y ∷ [])) ≡ packedId dim2 (x / 4 * 4 ∷ y / 4 * 4 ∷ [])
+region-packed2 x y =
+    by-coords dim2 good2 (laws2 .isRegion (packed2 (x ∷ y ∷ [])) .cell) (packed2 (x / 4 * 4 ∷ y / 4 * 4 ∷ []))
+    (floors (dim2 .sumAxes) (axes-of (dim2 .sumAxes) (good2 .cuts)) (packedId dim2 (x ∷ y ∷ [])) ∙ ap (map floor) (kept2 x y)
+    ∙ ap₂ (λ (a b : ℕ). a ∷ b ∷ []) (omega arith) (omega arith) ∙ sym (kept2 (x / 4 * 4) (y / 4 * 4)))
+
+summed2 : (a b x y : ℕ) → sums (dim2 .sumAxes) (a ∷ b ∷ []) (x ∷ y ∷ []) ≡ (a + x) % 2 ^ 28 ∷ (b + y) % 2 ^ 28 ∷ []
+unfolding sums dim2 count
+summed2 a b x y = refl
+
+sum-packed2 : (a b x y : ℕ) → sum dim2 (packedId dim2 (a ∷ b ∷ [])) (packedId dim2 (x ∷ y ∷ [])) ≡ packedId dim2 ((a + x) ∷ (b + y) ∷ [])
+sum-packed2 a b x y =
+    by-coords dim2 good2 (laws2 .closed (packedId dim2 (a ∷ b ∷ [])) (packedId dim2 (x ∷ y ∷ []))) (packed2 ((a + x) ∷ (b + y) ∷ []))
+    (laws2 .addsPacked (a ∷ b ∷ []) (x ∷ y ∷ []) ∙ summed2 a b x y ∙ sym (kept2 (a + x) (b + y)))
+
+cell-of2 : (r n : ℕ) → cellOf dim2 r n ≡ sum dim2 (region r) (packedId dim2 (n % 4 ∷ n / 4 % 4 ∷ []))
+unfolding cellOf packedId dim2 toFours
+cell-of2 r n = refl
+
+-- a cell by its region and its number
+cell2 : {i : ℕ} → IsCell dim2 i → i ≡ sum dim2 (region i) (packedId dim2 (number dim2 i % 4 ∷ number dim2 i / 4 ∷ []))
+cell2 {i} p =
+    let n = number dim2 i in
+    let e : n / 4 % 4 ≡ n / 4 = omega (arith, numbers2 i) in
+    sym (laws2 .rejoined p) ∙ cell-of2 (region i) n ∙ rw (e, laws2 .isRegion p .whole)
+
+shift2 : (k : ℕ) → k < 9 → getD (packedShifts dim2) k 0 ≡ packedId dim2 (getD (dim2 .shifts) k [])
+unfolding packedShifts packedId dim2
+shift2 k l = at-map (packed (dim2 .sumAxes)) [] (dim2 .shifts) k l
+
+-- the k-th cell of a stencil lies at the sum of both places from the region's first
+pub stencil2 : {i : ℕ} → IsCell dim2 i → (k x y : ℕ) → k < 9 → getD (dim2 .shifts) k [] ≡ x ∷ y ∷ []
+    → getD (stencilOf dim2 i) k 0 ≡ sum dim2 (region i) (packedId dim2 ((number dim2 i % 4 + x) ∷ (number dim2 i / 4 + y) ∷ []))
+stencil2 {i} p k x y l e =
+    let n = number dim2 i in
+    laws2 .inOrder i k (rw shifts2-long l) ∙ ap (sum dim2 i) (shift2 k l ∙ ap (packedId dim2) e)
+    ∙ ap (λ (j : ℕ). sum dim2 j (packedId dim2 (x ∷ y ∷ []))) (cell2 p)
+    ∙ laws2 .assoc (region i) (packedId dim2 (n % 4 ∷ n / 4 ∷ [])) (packedId dim2 (x ∷ y ∷ []))
+    ∙ ap (sum dim2 (region i)) (sum-packed2 (n % 4) (n / 4) x y)
+
+-- the shifts to a region itself and to its neighbours, of 4 cells along x, along y, and along both
+pub reach2 : (packedId dim2 (0 ∷ 0 ∷ []) ≡ 0) × (packedId dim2 (4 ∷ 0 ∷ []) ≡ 4096) × (packedId dim2 (0 ∷ 4 ∷ []) ≡ 8192) × (packedId dim2 (4 ∷ 4 ∷ []) ≡ 12288)
+unfolding packedId dim2 packed place
+reach2 = (refl, refl, refl, refl)

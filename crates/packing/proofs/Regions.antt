@@ -111,6 +111,16 @@ numbers (m ∷ ms) a r n =
     four-pos zero = omega arith
     four-pos (suc k) = omega (arith, four-pos k, pow-suc 4 k)
 
+-- the number of a cell that lies at a shift from a region's first
+pub low-sums : (ms : List Mask) → Axes ms → (r x : ℕ) → fromFours (sums ms (coords ms (region r)) (coords ms x)) ≡ fromFours (coords ms x)
+unfolding coords sums fromFours
+low-sums [] a r x = refl
+low-sums (m ∷ ms) a r x =
+    let w = a .0 .wide in
+    ap₂ (λ (c n : ℕ). c + 4 * n)
+    (rw (a .0 .floor r, w .are) (low-sum (w .pairs * 2) (coord m r) (coord m x) (omega (arith, w .some))))
+    (low-sums ms (a .1) r x)
+
 -- ---- what a shift carries into another region
 
 -- the shifts of a stencil move by 0, 1 or 2

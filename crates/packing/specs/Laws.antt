@@ -69,3 +69,6 @@ pub record Laws (d : Dim) : Type 0 where
   -- They are cells, and the one at place k is the cell plus the shift at place k.
   pub cells : (i : ℕ) {x : ℕ} → x ∈ stencilOf d i → IsCell d x
   pub inOrder : (i k : ℕ) → k < length (packedShifts d) → getD (stencilOf d i) k 0 ≡ sum d i (getD (packedShifts d) k 0)
+  -- 8. What lies at a shift from a region's first cell is in the region moved by the shift's own, and has the shift's own number there.
+  pub moved : (r shift : ℕ) → region (sum d (region r) shift) ≡ sum d (region r) (region shift)
+  pub numbered : (r shift : ℕ) → number d (sum d (region r) shift) ≡ number d shift
