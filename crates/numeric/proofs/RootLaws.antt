@@ -1,13 +1,13 @@
 -- What the functions of `roots` cite. Assumes nothing.
 use mathlib.Core.Path.{_≡_, refl, sym, ap, _∙_, subst}
 use mathlib.Core.Logic.{inl, inr}
-use mathlib.Core.Bool.{Bool, true, false, cond, true≢false, false≢true}
+use mathlib.Core.Bool.{Bool, true, false, not, cond, true≢false, false≢true}
 use Prim.Native.Nat.{ℕ, zero, suc, _+_, _-_, _*_, _/_, _%_, _^_, _≤_, _<_}
 use native.Mathlib.Nat.{mul-one, mul-assoc, le-of-lt, not-le-of-lt, one-mul, add-comm, le-of-eq, le-trans, lt-of-le-of-lt, eq-or-lt-of-le, eq-zero-or-pos, zero-lt-suc, mod-eq-of-lt, mul-le-mul, mul-div-cancel, pow-succ'}
-use native.Mathlib.Numerals.{add-one-le}
+use native.Mathlib.Numerals.{add-one, add-one-le}
 use native.Mathlib.Omega.{arith}
 use borrow.Author.Tests.{leb-false, lt-ltb, le-ltb}
-use lib.Dec.{T, leb, ltb, eqb, ltb→lt, lit<, eqb·suc-zero}
+use lib.Dec.{T, leb, ltb, eqb, leb→le, nleb→lt, ltb→lt, lit<, eqb·suc-zero}
 use lib.Pow.{pow-add, pow-mono}
 use lib.Ieee.{Float, nan, inf, fin, binary32, up, down, size, odd, units, fits, lt, eq, ne, ofFields, ofBits}
 use lib.Ieee.Fits.{odd-fits, inf-fits, down-pos, kept-lt}
@@ -16,7 +16,7 @@ use lib.Ieee.Exact.{HasValue, units-val}
 use Rattle.numeric.specs.Bits.{none, fieldUnits, patternUnits}
 use Rattle.numeric.specs.Root.{wholeRoot, nearerRoot, unitsRoot, rootOf}
 use Rattle.numeric.proofs.Patterns.{is-nan, no-nan, pattern-value, same-value, bits, x-is, value, negative, bits-negative, above-zero, zero-equals, some-differs}
-use Rattle.numeric.proofs.Squares.{Root, twice-square, whole-root, root-ge, root-lt, leading, dropped, above-middle, below-middle}
+use Rattle.numeric.proofs.Squares.{Root, Near, near-down, near-up, twice-square, whole-root, root-ge, root-lt, leading, dropped, above-middle, below-middle}
 
 -- ---- the pattern of q * 2 ^ k units, for a q from 2 ^ 23 to 2 ^ 24
 units-fit : (q k : ℕ) → q ≤ 2 ^ 24 → T (fits binary32 (units binary32 false q k))
@@ -99,6 +99,23 @@ module _ (n k r : ℕ) (R : Root n r) (lo : 70368744177664 ≤ n) (hi : n < 2814
   pub root-up : r < n - r * r → ofBits binary32 (k * 8388608 + (r + 1)) ≡ unitsRoot w
   root-up h = pattern-of (r + 1) k (omega (arith, root-from)) (omega (arith, root-below)) c ∙ sym (root-is-up h)
 
+-- the nearest whole number has 24 digits, or is 2 ^ 24
+pub root-near : (n k q : ℕ) → Near n q → 70368744177664 ≤ n → n < 281474976710656 → k ≤ 201 → (ofBits binary32 (k * 8388608 + q) ≡ unitsRoot (n * (2 ^ k * 2 ^ k))) × (q ≤ 16777216)
+root-near n k q N lo hi c = go (leb (q * q) n) (leb→le (q * q) n) (nleb→lt (q * q) n)
+  where
+    is : ℕ → Type 0
+    is q = (ofBits binary32 (k * 8388608 + q) ≡ unitsRoot (n * (2 ^ k * 2 ^ k))) × (q ≤ 16777216)
+
+    up : (q : ℕ) → Near n q → n < q * q → is q
+    up zero N g = absurd (omega arith)
+    up (suc r) N g =
+        let d = near-up n r (rw (← add-one r) at N) (rw (← add-one r) at g) in
+        subst is (add-one r) (root-up n k r (d .0) lo hi c (d .1), omega (arith, root-lt n r (d .0) hi))
+
+    go : (b : Bool) → (T b → q * q ≤ n) → (T (not b) → n < q * q) → is q
+    go true l g = let d = near-down n q N (l tt) in (root-down n k q (d .0) lo hi c (d .1), le-of-lt (root-lt n q (d .0) hi))
+    go false l g = up q N (g tt)
+
 -- ---- a turn of the loop: n times 4, and k less 1
 pub some-left : (m h : ℕ) → m < 70368744177664 → 70368744177664 ≤ m * (2 ^ h * 2 ^ h) → 1 ≤ h
 some-left m zero a b = absurd (not-le-of-lt a (le-trans b (le-of-eq (mul-one m))))
@@ -113,7 +130,7 @@ quarter m h a = quarter-suc m (h - 1) ∙ ap (λ (z : ℕ). m * (2 ^ z * 2 ^ z))
     back : (h : ℕ) → 1 ≤ h → suc (h - 1) ≡ h
     back h a = omega arith
 
--- ---- the three ways of `root_pattern`
+-- ---- the two ways of `root_pattern`
 pub enough : (n k : ℕ) → 0 < n → 74 ≤ k → 70368744177664 ≤ n * (2 ^ k * 2 ^ k)
 enough n k h g =
     let s : 23 ≤ k = omega arith in
@@ -122,22 +139,21 @@ enough n k h g =
 pub subnormal : (t : ℕ) → t * 2 * (2 ^ 74 * 2 ^ 74) ≡ fieldUnits 0 t * 2 ^ 149
 subnormal t = mul-assoc t 2 (2 ^ 74 * 2 ^ 74)
 
-pub even-field : (t x : ℕ) → (x ≡ 0 → ⊥) → x % 2 ≡ 0 → (t + 8388608) * (2 ^ (x / 2 + 74) * 2 ^ (x / 2 + 74)) ≡ fieldUnits x t * 2 ^ 149
-even-field t zero z h = absurd (z refl)
-even-field t (suc j) z h =
-    let k = suc j / 2 + 74 in
-    ap (λ (q : ℕ). q * (2 ^ k * 2 ^ k)) (add-comm t 8388608)
-    ∙ ap (λ (q : ℕ). (8388608 + t) * q) (sym (pow-add 2 k k) ∙ ap (λ (q : ℕ). 2 ^ q) (omega arith) ∙ pow-add 2 j 149)
+pub normal-field : (t x : ℕ) → (x ≡ 0 → ⊥) → (t + 8388608) * 2 ^ (24 - x % 2) * (2 ^ ((x + 1) / 2 + 62) * 2 ^ ((x + 1) / 2 + 62)) ≡ fieldUnits x t * 2 ^ 149
+normal-field t zero z = absurd (z refl)
+normal-field t (suc j) z =
+    let p = 24 - suc j % 2 in
+    let k = (suc j + 1) / 2 + 62 in
+    mul-assoc (t + 8388608) (2 ^ p) (2 ^ k * 2 ^ k)
+    ∙ ap (λ (q : ℕ). q * (2 ^ p * (2 ^ k * 2 ^ k))) (add-comm t 8388608)
+    ∙ ap (λ (q : ℕ). (8388608 + t) * q) (ap (λ (q : ℕ). 2 ^ p * q) (sym (pow-add 2 k k)) ∙ sym (pow-add 2 p (k + k)) ∙ ap (λ (q : ℕ). 2 ^ q) (omega arith) ∙ pow-add 2 j 149)
     ∙ sym (mul-assoc (8388608 + t) (2 ^ j) (2 ^ 149))
 
-pub odd-field : (t x : ℕ) → (x % 2 ≡ 0 → ⊥) → (t + 8388608) * 2 * (2 ^ (x / 2 + 74) * 2 ^ (x / 2 + 74)) ≡ fieldUnits x t * 2 ^ 149
-odd-field t zero h = absurd (h refl)
-odd-field t (suc j) h =
-    let k = suc j / 2 + 74 in
-    mul-assoc (t + 8388608) 2 (2 ^ k * 2 ^ k)
-    ∙ ap (λ (q : ℕ). q * (2 * (2 ^ k * 2 ^ k))) (add-comm t 8388608)
-    ∙ ap (λ (q : ℕ). (8388608 + t) * q) (ap (λ (q : ℕ). 2 * q) (sym (pow-add 2 k k)) ∙ sym (pow-succ' 2 (k + k)) ∙ ap (λ (q : ℕ). 2 ^ q) (omega arith) ∙ pow-add 2 j 149)
-    ∙ sym (mul-assoc (8388608 + t) (2 ^ j) (2 ^ 149))
+-- a shift of 24 digits by 24 or 23 places loses none
+pub shifted : (n p : ℕ) → 8388608 ≤ n → n < 16777216 → p < 2 → (n * 2 ^ (24 - p) % 2 ^ 64 ≡ n * 2 ^ (24 - p)) × (70368744177664 ≤ n * 2 ^ (24 - p) % 2 ^ 64) × (n * 2 ^ (24 - p) % 2 ^ 64 < 281474976710656)
+shifted n zero a b c = (omega arith, omega arith, omega arith)
+shifted n (suc zero) a b c = (omega arith, omega arith, omega arith)
+shifted n (suc (suc p)) a b c = (omega arith, omega arith, omega arith)
 
 -- ---- `rootOf` in the order of `root`'s tests
 

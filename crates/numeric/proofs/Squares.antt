@@ -23,6 +23,13 @@ pub next-square : (r : ℕ) → (r + 1) * (r + 1) ≡ r * r + 2 * r + 1
 next-square r = let e : (r + 1) * (r + 1) ≡ r * (r + 1) + 1 * (r + 1) = add-mul r 1 (r + 1) in
     let f : r * (r + 1) ≡ r * r + r * 1 = mul-add r r 1 in omega arith
 
+-- the square of a 32-bit number fits 64, and so does the number below the next square
+pub square-fits : (r : ℕ) → r ≤ 4294967295 → r * r + 2 * r < 18446744073709551616
+square-fits r h =
+    let l : r + 1 ≤ 4294967296 = omega arith in
+    let k : (r + 1) * (r + 1) ≤ 4294967296 * 4294967296 = mul-le-mul l l in
+    omega (arith, next-square r)
+
 pub odd-square : (r : ℕ) → (2 * r + 1) * (2 * r + 1) ≡ 4 * (r * r) + 4 * r + 1
 odd-square r = let e = next-square (2 * r) in let f = twice-square r in omega arith
 
@@ -60,6 +67,17 @@ whole-root n = digits-root (size n) n (size-lt n)
 -- ---- the order of numbers is that of their squares
 pub square-lt : (a b : ℕ) → a * a < b * b → a < b
 square-lt a b h = lt-of-not-le (λ (g : b ≤ a). not-le-of-lt h (mul-le-mul g g))
+
+-- ---- the whole number nearest to the root
+abbrev pub Near : ℕ → ℕ → Type 0
+Near n q = (q * q < n + q) × (n ≤ q * q + q)
+
+-- it is the whole part r, with at most r left, or one more, with more than r left
+pub near-down : (n r : ℕ) → Near n r → r * r ≤ n → Root n r × (n - r * r ≤ r)
+near-down n r h g = ((g, omega (arith, next-square r)), omega arith)
+
+pub near-up : (n r : ℕ) → Near n (r + 1) → n < (r + 1) * (r + 1) → Root n r × (r < n - r * r)
+near-up n r h g = ((omega (arith, next-square r), g), omega (arith, next-square r))
 
 -- ---- the root of n at 2 ^ 46 ≤ n < 2 ^ 48 has 24 digits
 module _ (n r : ℕ) (R : Root n r) where
