@@ -2,3 +2,5 @@ pub mod Every
 pub mod Accepting
 pub mod Staging
 pub mod Placing
+pub mod Blocking
+pub mod Passing

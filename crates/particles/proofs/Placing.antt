@@ -22,7 +22,7 @@ use Rattle.particles.specs.declared.particle.Particle.{Particle}
 use Rattle.particles.proofs.Every.{all-at}
 
 -- the place that a case says, or 0
-abbrev placeIn : Found → ℕ
+abbrev pub placeIn : Found → ℕ
 placeIn (At k) = k
 placeIn Absent = 0
 

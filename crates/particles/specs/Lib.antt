@@ -1,4 +1,5 @@
 pub mod Particles
 pub mod Table
 pub mod Places
+pub mod Blocks
 pub mod Values

@@ -43,8 +43,11 @@ notFinite q = not (all finite (particleForm .floatsOf q))
 abbrev pub greatestCoordinate : Float
 greatestCoordinate = ofBits binary32 0x477fff00
 
+abbrev pub inRange : Float → Bool
+inRange r = le one r && le r greatestCoordinate
+
 unfoldable pub onAxis : Float → Float → Bool
-onAxis h x = le one (nearest h x) && le (nearest h x) greatestCoordinate
+onAxis h x = inRange (nearest h x)
 
 unfoldable pub offGrid : Float → Particle → Bool
 offGrid h q = not (all (onAxis h) (positionOf q))
@@ -150,3 +153,12 @@ pub record Ready (h : Float) (ids ranges : List ℕ) (particles s : Store) : Typ
   pub particles-held : Holds particleForm particles count
   pub nodes-held : Holds nodeForm s (length ids * regionCells)
   pub accepted : Accepted h ids ranges particles count
+
+-- ---- as the code goes first: whether no rule refuses a particle of the region r
+
+abbrev pub Passes : Float → List ℕ → ℕ → Particle → Type 0
+Passes h ids r q = (rule : Rule) → judged rule h ids r q ≡ false
+
+-- of the n particles from p on
+abbrev pub AllPass : Float → List ℕ → ℕ → Store → ℕ → ℕ → Type 0
+AllPass h ids r s p n = (k : ℕ) → p ≤ k → k < p + n → Passes h ids r (particleAt s k)

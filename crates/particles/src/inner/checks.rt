@@ -1,18 +1,26 @@
 // The numbers of the table that look at particles, and those of a call whose particles stand in listed regions.
 ghost use mathlib.Core.Path.{_≡_};
+ghost use mathlib.Core.Bool.{true};
 ghost use mathlib.Core.List.{[], _∷_};
-ghost use Prim.Native.Nat.{_+_, _*_, _≤_};
-ghost use lib.ListN.{length};
+ghost use Prim.Native.Nat.{ℕ, _+_, _*_, _≤_, _<_};
+ghost use lib.ListN.{length, getD};
 ghost use Rattle.laws.specs.Store.{store};
-ghost use Rattle.packing.specs.Ids.{dim2};
-ghost use Rattle.grid.specs.Table.{all, matches, finite, rangeWords, Covers};
-ghost use Rattle.particles.specs.Particles.{particleFloats, particleWords};
-ghost use Rattle.particles.specs.Table.{particleLengths, badFlag, notFinite, onAxis, offGrid, outOfRegion, listed, unlisted, judged, firstParticle, outOfRegions, placed, checked, stageCheck};
+ghost use Rattle.packing.specs.Ids.{dim2, region};
+ghost use Rattle.grid.specs.Table.{all, matches, finite, Regions, rangeWords, startOf, countOf, Covers};
+ghost use Rattle.grid.specs.declared.Answer.the-variants.{Done};
+ghost use Rattle.particles.specs.Particles.{particleFloats, particleWords, particleAt};
+ghost use Rattle.particles.specs.Blocks.{blockCells, AllThere, Stands};
+ghost use Rattle.particles.specs.Table.{particleLengths, badFlag, notFinite, inRange, onAxis, offGrid, outOfRegion, listed, unlisted, judged, firstParticle, outOfRegions, placed, checked, stageCheck, AllPass};
+use crate::inner::blocks::BLOCK_SIDE;
+use crate::inner::blocks::block_of;
+use crate::inner::blocks::corner_of;
 use crate::inner::read_particle;
 use crate::particle::PARTICLE_FLOATS;
 use crate::particle::PARTICLE_WORDS;
 use crate::particle::Particle;
 use cells::Found;
+use cells::inner::first_cell;
+use cells::inner::nearest;
 use grid::Answer;
 use grid::Rule;
 use grid::inner::RANGE_WORDS;
@@ -27,6 +35,7 @@ use grid::inner::is_finite;
 use grid::inner::is_finite_vector;
 use numeric::dim2::Matrix;
 use numeric::dim2::Vector;
+use packing::dim2::Cell;
 
 // Whether slices of these lengths hold so many particles.
 pub fn holds_particles(particles: usize, pf: usize, pw: usize) -> bool
@@ -77,6 +86,10 @@ pub fn check_particles(
     requires { ⌜ (length (now ids) * rangeWords ≤ length (now ranges)) × (particles * particleFloats ≤ length (now pf)) × (particles * particleWords ≤ length (now pw)) ⌝ }
     ensures { λ a. ⌜ a ≡ checked h (now (ids .entry)) (now (ranges .entry)) (store (now (pf .entry)) (now (pw .entry))) particles ⌝ }
 {
+    // What is good, as nearly every call is, is seen in one pass; only what is not is looked through number by number.
+    if is_accepted(h, ids, ranges, pf, pw, particles) {
+        return Answer::Done;
+    }
     first_refusal(
         first_particle(Rule::Code, h, ids, 0, pf, pw, 0, particles),
         first_refusal(
@@ -84,6 +97,136 @@ pub fn check_particles(
             check_places(h, ids, ranges, pf, pw, particles),
         ),
     )
+}
+
+// Whether no number from 4 on is found, in one pass over the particles. A yes is proved; a no only sends the call through the numbers one by one.
+pub fn is_accepted(
+    h: f32,
+    ids: &[u64],
+    ranges: &[u64],
+    pf: &[f32],
+    pw: &[u32],
+    particles: usize,
+) -> bool
+    requires { ⌜ (length (now ids) * rangeWords ≤ length (now ranges)) × (particles * particleFloats ≤ length (now pf)) × (particles * particleWords ≤ length (now pw)) ⌝ }
+    ensures { λ r. ⌜ ((r ≡ true) → checked h (now (ids .entry)) (now (ranges .entry)) (store (now (pf .entry)) (now (pw .entry))) particles ≡ Done) ⌝ }
+{
+    let a = check_regions(ids);
+    let Answer::Done = a else {
+        return false;
+    };
+    let b = check_cover(ids.len(), ranges, particles as u64);
+    let Answer::Done = b else {
+        return false;
+    };
+    do_regions_pass(h, ids, ranges, pf, pw, particles)
+}
+
+// Whether every region's particles pass.
+fn do_regions_pass(
+    h: f32,
+    ids: &[u64],
+    ranges: &[u64],
+    pf: &[f32],
+    pw: &[u32],
+    particles: usize,
+) -> bool
+    requires { ⌜ (length (now ids) * rangeWords ≤ length (now ranges)) × Regions (now ids) × Covers (length (now ids)) (now ranges) particles
+        × (particles * particleFloats ≤ length (now pf)) × (particles * particleWords ≤ length (now pw)) ⌝ }
+    ensures { λ r. ⌜ ((r ≡ true) → (i : ℕ) → i < length (now (ids .entry)) → AllPass h (now (ids .entry)) (getD (now (ids .entry)) i 0) (store (now (pf .entry)) (now (pw .entry))) (startOf (now (ranges .entry)) i) (countOf (now (ranges .entry)) i)) ⌝ }
+{
+    let mut r = 0;
+    while r < ids.len() {
+        let start = ranges[r * RANGE_WORDS] as usize;
+        let count = ranges[r * RANGE_WORDS + 1] as usize;
+        if !does_region_pass(h, ids, ids[r], pf, pw, start, count) {
+            return false;
+        }
+        r += 1;
+    }
+    true
+}
+
+// Whether the `count` particles from `start` on pass as those of a region.
+fn does_region_pass(
+    h: f32,
+    ids: &[u64],
+    region_id: u64,
+    pf: &[f32],
+    pw: &[u32],
+    start: usize,
+    count: usize,
+) -> bool
+    requires { ⌜ (region «region_id» ≡ «region_id») × ((start + count) * particleFloats ≤ length (now pf)) × ((start + count) * particleWords ≤ length (now pw)) ⌝ }
+    ensures { λ r. ⌜ ((r ≡ true) → AllPass h (now (ids .entry)) «region_id» (store (now (pf .entry)) (now (pw .entry))) start count) ⌝ }
+{
+    // That an id is the one of its coordinates is asked rather than proved, which is cheap once a region.
+    let corner = packing::dim2::unpack(region_id);
+    if packing::dim2::pack(corner.x, corner.y) != region_id {
+        return false;
+    }
+    let block = block_of(ids, region_id);
+    do_particles_pass(h, corner, &block, pf, pw, start, count)
+}
+
+fn do_particles_pass(
+    h: f32,
+    corner: Cell,
+    block: &[usize],
+    pf: &[f32],
+    pw: &[u32],
+    start: usize,
+    count: usize,
+) -> bool
+    requires { ⌜ (length (now block) ≡ blockCells) × ((start + count) * particleFloats ≤ length (now pf)) × ((start + count) * particleWords ≤ length (now pw)) ⌝ }
+    ensures { λ r. ⌜ ((r ≡ true) → (k : ℕ) → start ≤ k → k < start + count → Stands h (corner .x) (corner .y) (now (block .entry)) (particleAt (store (now (pf .entry)) (now (pw .entry))) k)) ⌝ }
+{
+    let mut left = count;
+    while 0 < left {
+        if !does_particle_pass(
+            h,
+            corner,
+            block,
+            read_particle(pf, pw, start + count - left),
+        ) {
+            return false;
+        }
+        left -= 1;
+    }
+    true
+}
+
+fn does_particle_pass(h: f32, corner: Cell, block: &[usize], q: Particle) -> bool
+    requires { ⌜ length (now block) ≡ blockCells ⌝ }
+    ensures { λ r. ⌜ ((r ≡ true) → Stands h (corner .x) (corner .y) (now (block .entry)) q) ⌝ }
+{
+    if has_bad_flag(q) | is_not_finite(q) {
+        return false;
+    }
+    let near = nearest(h, q.position);
+    if !(is_coordinate(near.x) & is_coordinate(near.y)) {
+        return false;
+    }
+    let first = first_cell(near);
+    if !((first.x / 4 == corner.x / 4) & (first.y / 4 == corner.y / 4)) {
+        return false;
+    }
+    are_there(block, corner_of(near))
+}
+
+// Whether every node of the stencil that begins at a corner has a place.
+fn are_there(block: &[usize], corner: usize) -> bool
+    requires { ⌜ (length (now block) ≡ blockCells) × (corner < 22) ⌝ }
+    ensures { λ r. ⌜ ((r ≡ true) → AllThere (now (block .entry)) corner) ⌝ }
+{
+    let mut k = 0;
+    while k < 9 {
+        if block[corner + (k % 3 + BLOCK_SIDE * (k / 3))] == 0 {
+            return false;
+        }
+        k += 1;
+    }
+    true
 }
 
 // Numbers 6 to 10: where the regions and the particles stand.
@@ -233,7 +376,13 @@ fn is_off_grid(h: f32, q: Particle) -> bool
 fn is_on_axis(h: f32, x: f32) -> bool
     ensures { λ r. ⌜ r ≡ onAxis h x ⌝ }
 {
-    let r = numeric::round(x / h);
+    is_coordinate(numeric::round(x / h))
+}
+
+// Whether a rounded quotient is the coordinate of a cell that has one before it.
+fn is_coordinate(r: f32) -> bool
+    ensures { λ b. ⌜ b ≡ inRange r ⌝ }
+{
     (1.0 <= r) & (r <= 65535.0)
 }
 
