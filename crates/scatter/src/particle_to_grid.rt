@@ -12,31 +12,35 @@ ghost use Rattle.laws.specs.Refusals.{settle};
 ghost use Rattle.cells.specs.Stencil.{dirToAssociatedGridNode};
 ghost use Rattle.grid.specs.Answers.{refused};
 ghost use Rattle.grid.specs.declared.Answer.the-variants.{Done};
-ghost use Rattle.grid.specs.Nodes.{nodeForm, nodes, regionCells};
-ghost use Rattle.grid.specs.Table.{rangeWords, startOf, countOf};
-ghost use Rattle.particles.specs.Particles.{particleFloats, positionOf};
-ghost use Rattle.particles.specs.Places.{nodePlace};
+ghost use Rattle.grid.specs.Nodes.{nodeForm, nodes};
+ghost use Rattle.particles.specs.Particles.{particleFloats, particleWords, positionOf};
+ghost use Rattle.particles.specs.Blocks.{foundAt, BlockIn, cornerOf};
 ghost use Rattle.particles.specs.Table.{Ready};
 ghost use Rattle.scatter.specs.Hit.{stressOf, affineOf, psiMassOf, bodyOf, brought, broughtBy, hitNode, weighedNode, changedFor, changedBy};
-ghost use Rattle.scatter.specs.Scatter.{onNode, particleHits, rangeHits, colouredHits, colourHits, scatterHits, scattered, regionScattered, scatterCheck, placeCheck};
+ghost use Rattle.scatter.specs.Scatter.{onNode, regionHits, columnHits, blockHits, nearHits, colouredHits, colourHits, scatterHits, scattered, regionScattered, scatterCheck, placeCheck};
 use crate::inner::check_scatter;
-use cells::Found;
-use cells::inner::STENCIL_CELLS;
+use crate::inner::scatter_all;
+use crate::inner::scatter_at;
+use cells::inner::STENCIL_SIDE;
 use cells::inner::dir_to_associated_grid_node;
 use cells::inner::dpt;
-use cells::inner::nbh_shift;
+use cells::inner::nearest;
+use cells::inner::step;
 use cells::inner::weight;
 use grid::Answer;
 use grid::Rule;
 use grid::grid_node::GridNode;
-use grid::inner::RANGE_WORDS;
+use grid::inner::count_of;
 use grid::inner::read_node;
+use grid::inner::start_of;
 use grid::inner::write_node;
 use numeric::dim2::Matrix;
 use numeric::dim2::Vector;
 use numeric::inv_exact;
 use packing::dim2::Cell;
-use particles::inner::node_place;
+use particles::inner::blocks::BLOCK_SIDE;
+use particles::inner::blocks::block_of;
+use particles::inner::blocks::corner_of;
 use particles::inner::read_particle;
 use particles::particle::Particle;
 
@@ -98,16 +102,7 @@ pub fn particle_to_grid_scatter(
     let Answer::Done = a else {
         return a;
     };
-    scatter_colors(
-        cell_width,
-        Pass::ForAll(dt, gravity),
-        ids,
-        ranges,
-        pf,
-        pw,
-        nf,
-        nw,
-    );
+    scatter_all(cell_width, dt, gravity, ids, ranges, pf, pw, nf, nw);
     Answer::Done
 }
 
@@ -146,20 +141,7 @@ pub fn particle_to_grid_scatter_region(
     let Answer::Done = a else {
         return a;
     };
-    let start = start_of(ranges, place);
-    let count = count_of(ranges, place);
-    scatter_particles(
-        cell_width,
-        Pass::ForAll(dt, gravity),
-        ids,
-        ranges,
-        pf,
-        pw,
-        start,
-        count,
-        nf,
-        nw,
-    );
+    scatter_at(cell_width, dt, gravity, ids, ranges, pf, pw, place, nf, nw);
     Answer::Done
 }
 
@@ -234,32 +216,35 @@ fn scatter_colored(
     if !packing::dim2::is_in_region_with_color(id, color) {
         return;
     }
-    let first = start_of(ranges, place);
-    let number = count_of(ranges, place);
-    scatter_particles(cell_width, pass, ids, ranges, pf, pw, first, number, nf, nw);
+    scatter_region(cell_width, pass, ids, ranges, pf, pw, place, nf, nw);
 }
 
-// Where a region's particles begin, and how many they are.
-fn start_of(ranges: &[u64], place: usize) -> usize
-    requires { ⌜ place * rangeWords + rangeWords ≤ length (now ranges) ⌝ }
-    ensures { λ r. ⌜ r ≡ startOf (now (ranges .entry)) place ⌝ }
-{
-    ranges[place * RANGE_WORDS] as usize
-}
-
-fn count_of(ranges: &[u64], place: usize) -> usize
-    requires { ⌜ place * rangeWords + rangeWords ≤ length (now ranges) ⌝ }
-    ensures { λ r. ⌜ r ≡ countOf (now (ranges .entry)) place ⌝ }
-{
-    ranges[place * RANGE_WORDS + 1] as usize
-}
-
-// `count` particles from `start` on.
-fn scatter_particles(
+// The region at a place: the places that its stencils reach are looked for once.
+pub(crate) fn scatter_region(
     cell_width: f32,
     pass: Pass,
     ids: &[u64],
     ranges: &[u64],
+    pf: &[f32],
+    pw: &[u32],
+    place: usize,
+    nf: &mut [f32],
+    nw: &mut [u32],
+)
+    requires { ⌜ (place < length (now ids)) × Ready «cell_width» (now ids) (now ranges) (store (now pf) (now pw)) (store (now nf) (now nw)) ⌝ }
+    ensures { λ _. ⌜ store (now (nf .exit)) (now (nw .exit)) ≡ run nodes (regionHits «cell_width» (changedFor «cell_width» pass) (now (ids .entry)) (now (ranges .entry)) (store (now (pf .entry)) (now (pw .entry))) place) (store (now (nf .entry)) (now (nw .entry))) ⌝ }
+{
+    let start = start_of(ranges, place);
+    let count = count_of(ranges, place);
+    let block = block_of(ids, ids[place]);
+    scatter_particles(cell_width, pass, &block, pf, pw, start, count, nf, nw);
+}
+
+// `count` particles from `start` on, by the places of their region's block.
+fn scatter_particles(
+    cell_width: f32,
+    pass: Pass,
+    block: &[usize; 36],
     pf: &[f32],
     pw: &[u32],
     start: usize,
@@ -267,59 +252,69 @@ fn scatter_particles(
     nf: &mut [f32],
     nw: &mut [u32],
 )
-    requires { ⌜ ((start + count) * particleFloats ≤ length (now pf)) × Ready «cell_width» (now ids) (now ranges) (store (now pf) (now pw)) (store (now nf) (now nw)) ⌝ }
-    ensures { λ _. ⌜ store (now (nf .exit)) (now (nw .exit)) ≡ run nodes (rangeHits «cell_width» (changedFor «cell_width» pass) (now (ids .entry)) (store (now (pf .entry)) (now (pw .entry))) start count) (store (now (nf .entry)) (now (nw .entry))) ⌝ }
+    requires { ⌜ ((start + count) * particleFloats ≤ length (now pf)) × ((start + count) * particleWords ≤ length (now pw)) × BlockIn (now block) (length (now nw)) × Holds nodeForm (store (now nf) (now nw)) (length (now nw)) ⌝ }
+    ensures { λ _. ⌜ store (now (nf .exit)) (now (nw .exit)) ≡ run nodes (nearHits (now (block .entry)) «cell_width» (changedFor «cell_width» pass) (store (now (pf .entry)) (now (pw .entry))) start count) (store (now (nf .entry)) (now (nw .entry))) ⌝ }
 {
     let mut left = count;
     while 0 < left {
         let q = read_particle(pf, pw, start + (count - left));
-        scatter_particle(cell_width, pass, ids, q, nf, nw);
+        scatter_particle(cell_width, pass, block, q, nf, nw);
         left -= 1;
     }
 }
 
-// One particle, on the nine nodes of its stencil.
+// One particle, on the nine nodes of its stencil, column by column.
 fn scatter_particle(
     cell_width: f32,
     pass: Pass,
-    ids: &[u64],
+    block: &[usize; 36],
     q: Particle,
     nf: &mut [f32],
     nw: &mut [u32],
 )
-    requires { ⌜ Holds nodeForm (store (now nf) (now nw)) (length (now ids) * regionCells) ⌝ }
-    ensures { λ _. ⌜ store (now (nf .exit)) (now (nw .exit)) ≡ run nodes (particleHits «cell_width» (changedFor «cell_width» pass) (now (ids .entry)) q) (store (now (nf .entry)) (now (nw .entry))) ⌝ }
+    requires { ⌜ BlockIn (now block) (length (now nw)) × Holds nodeForm (store (now nf) (now nw)) (length (now nw)) ⌝ }
+    ensures { λ _. ⌜ store (now (nf .exit)) (now (nw .exit)) ≡ run nodes (blockHits (now (block .entry)) (changedFor «cell_width» pass q) (cornerOf «cell_width» q)) (store (now (nf .entry)) (now (nw .entry))) ⌝ }
 {
-    let dir = dir_to_associated_grid_node(cell_width, q.position);
+    let near = nearest(cell_width, q.position);
+    let dir = dir_to_associated_grid_node(cell_width, near, q.position);
     let load = load_of(cell_width, pass, q);
     let w = numeric::dim2::precompute_weights(dir, cell_width);
-    let stencil = packing::dim2::stencil(cells::dim2::cell_associated_to_point(
-        cell_width,
-        q.position,
-    ));
-    let mut left = STENCIL_CELLS;
-    while 0 < left {
-        let k = STENCIL_CELLS - left;
-        hit(
-            cell_width,
-            ids,
-            stencil[k],
-            dir,
-            load,
-            w,
-            nbh_shift(k),
-            nf,
-            nw,
-        );
-        left -= 1;
+    let corner = corner_of(near);
+    let mut i = 0;
+    while i < STENCIL_SIDE {
+        hit_column(cell_width, block, corner, dir, load, w, step(i), nf, nw);
+        i += 1;
     }
 }
 
-// One node. Its region is listed, as the check has shown; of another there would be none.
+// The column of a stencil that lies x beyond its first.
+fn hit_column(
+    cell_width: f32,
+    block: &[usize; 36],
+    corner: usize,
+    dir: Vector,
+    load: Load,
+    w: [[f32; 3]; 2],
+    x: u32,
+    nf: &mut [f32],
+    nw: &mut [u32],
+)
+    requires { ⌜ (w ≡ precomputeWeights (axes dir) «cell_width») × (corner < 22) × (x < 3) × BlockIn (now block) (length (now nw)) × Holds nodeForm (store (now nf) (now nw)) (length (now nw)) ⌝ }
+    ensures { λ _. ⌜ store (now (nf .exit)) (now (nw .exit)) ≡ run nodes (columnHits (now (block .entry)) (changedBy «cell_width» (axes dir) load) corner x) (store (now (nf .entry)) (now (nw .entry))) ⌝ }
+{
+    let mut j = 0;
+    while j < STENCIL_SIDE {
+        let y = step(j);
+        let place = block[corner + (x as usize + BLOCK_SIDE * y as usize)];
+        hit(cell_width, place, dir, load, w, Cell { x: x, y: y }, nf, nw);
+        j += 1;
+    }
+}
+
+// The node at a place, which a block numbers from 1 on. Its region is listed, as the check has shown; of another there would be none.
 fn hit(
     cell_width: f32,
-    ids: &[u64],
-    cell_id: u64,
+    place: usize,
     dir: Vector,
     load: Load,
     w: [[f32; 3]; 2],
@@ -327,12 +322,13 @@ fn hit(
     nf: &mut [f32],
     nw: &mut [u32],
 )
-    requires { ⌜ (w ≡ precomputeWeights (axes dir) «cell_width») × (shift .x < 3) × (shift .y < 3) × Holds nodeForm (store (now nf) (now nw)) (length (now ids) * regionCells) ⌝ }
-    ensures { λ _. ⌜ store (now (nf .exit)) (now (nw .exit)) ≡ run nodes (onNode (nodePlace (now (ids .entry)) «cell_id») (changedBy «cell_width» (axes dir) load (shift .x ∷ shift .y ∷ []))) (store (now (nf .entry)) (now (nw .entry))) ⌝ }
+    requires { ⌜ (w ≡ precomputeWeights (axes dir) «cell_width») × (shift .x < 3) × (shift .y < 3) × (place ≤ length (now nw)) × Holds nodeForm (store (now nf) (now nw)) (length (now nw)) ⌝ }
+    ensures { λ _. ⌜ store (now (nf .exit)) (now (nw .exit)) ≡ run nodes (onNode (foundAt place) (changedBy «cell_width» (axes dir) load (shift .x ∷ shift .y ∷ []))) (store (now (nf .entry)) (now (nw .entry))) ⌝ }
 {
-    let Found::At(k) = node_place(ids, cell_id) else {
+    if place == 0 {
         return;
-    };
+    }
+    let k = place - 1;
     let n = read_node(nf, nw, k);
     write_node(nf, nw, k, unload(cell_width, dir, load, w, shift, n));
 }

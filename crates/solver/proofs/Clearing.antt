@@ -16,6 +16,8 @@ use Rattle.grid.specs.declared.Answer.{Answer}
 use Rattle.grid.specs.declared.Answer.the-variants.{Done, Refused}
 use Rattle.grid.proofs.Emptying as Emptying
 use Rattle.grid.proofs.Lengths.{clear-held}
+use Rattle.particles.specs.Table.{Ready}
+use Rattle.particles.proofs.Staging.{still-ready}
 use Rattle.scatter.specs.Hit.{changed}
 use Rattle.scatter.specs.Scatter.{scattered, regionScattered, placeCheck, scatterCheck}
 use Rattle.scatter.proofs.Checking.{ready, region-ready}
@@ -113,11 +115,13 @@ module _ (h dt : Float) (gravity : List Float) (code locks regions : ℕ) (ids r
   scatter-done : scatterCheck Done h dt gravity regions ids ranges count particles (length (empty .floats)) (length (empty .words)) ≡ Done
   scatter-done = other-nodes (scatterCheck Done h dt gravity regions ids ranges count particles) s empty places room empty-room (three .1)
 
+  -- what is behind the scatter's check may build on it, of as many nodes
+  pub scatter-ready : Ready h ids ranges particles s
+  scatter-ready = ready Done h dt gravity regions ids ranges count particles (s .floats) (s .words) (ap refused (three .1)) .ready
+
   full-room : Holds nodeForm full places
   unfolding scattered
-  full-room =
-      scatter-laws h (changed h dt gravity) ids ranges particles empty
-      (ready Done h dt gravity regions ids ranges count particles (empty .floats) (empty .words) (ap refused scatter-done) .ready) .held
+  full-room = scatter-laws h (changed h dt gravity) ids ranges particles empty (still-ready h ids ranges particles s empty scatter-ready empty-room) .held
 
   update-done : updateCheck h dt code locks regions ids colliders frictions projections (length (full .floats)) (length (full .words)) ≡ Done
   update-done = other-nodes (updateCheck h dt code locks regions ids colliders frictions projections) s full places room full-room (three .2)
@@ -135,15 +139,14 @@ module _ (h dt : Float) (gravity : List Float) (code locks regions : ℕ) (ids r
   step r c l u other = kept-step r c l u other .zero
 
   -- the calls by their contracts, of which the first is done
-  pub in-turn : (t u v : Store) (a b d : Answer) → a ≡ Done → t ≡ settle (refused a) s (cleared regions s)
-      → b ≡ scatterCheck Done h dt gravity regions ids ranges count particles (length (t .floats)) (length (t .words)) → u ≡ settle (refused b) t (scattered h dt gravity ids ranges particles t)
+  pub in-turn : (t u v : Store) (a d : Answer) → a ≡ Done → t ≡ settle (refused a) s (cleared regions s) → u ≡ scattered h dt gravity ids ranges particles t
       → d ≡ updateCheck h dt code locks regions ids colliders frictions projections (length (u .floats)) (length (u .words))
       → v ≡ settle (refused d) u (updated h dt code locks ids colliders frictions projections u)
       → (d ≡ Done) × (v ≡ stepped h dt gravity code locks regions ids ranges count particles colliders frictions projections s)
   unfolding stepped
-  in-turn t u v a b d p clears q scatters w updates =
+  in-turn t u v a d p clears scatters w updates =
       let first : t ≡ empty = clears ∙ rw p in
-      let second : u ≡ full = scatters ∙ rw (q, first, scatter-done) in
+      let second : u ≡ full = scatters ∙ rw first in
       let third : d ≡ Done = w ∙ rw second update-done in
       (third, updates ∙ rw (third, second))
 

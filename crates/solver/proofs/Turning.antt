@@ -12,10 +12,9 @@ use lib.Ieee.{Float}
 use lib.ListN.{length, getD}
 use borrow.Author.Tests.{eqb-true, eqb-false, ltb-true, ltb-false, lt-ltb, le-ltb, eq-eqb, ne-eqb}
 use Rattle.packing.proofs.Laws.{colours2}
-use Rattle.laws.specs.Store.{Store}
+use Rattle.laws.specs.Store.{Store, store}
 use Rattle.laws.specs.Orders.{InTurn}
 use Rattle.laws.specs.Refusals as Refusals
-use Rattle.laws.specs.Refusals.{settle}
 use Rattle.laws.proofs.Refusals as Refused
 use Rattle.grid.specs.Answers.{refused, refuse, unless}
 use Rattle.grid.specs.Table.{all, finite, goodWidth, goodStep, lengths, nodeLengths, limits, settings, rangeWords}
@@ -24,7 +23,7 @@ use Rattle.grid.specs.declared.Answer.the-variants.{Done, Refused}
 use Rattle.grid.specs.declared.Rule.the-variants.{Length, Code}
 use Rattle.grid.proofs.Answers.{unless-end, refuse-passed, not-false, lengths-passed}
 use Rattle.grid.proofs.Lengths.{and-split}
-use Rattle.particles.specs.Table.{particleLengths, checked}
+use Rattle.particles.specs.Table.{particleLengths, checked, Ready}
 use Rattle.scatter.specs.Scatter.{colours, regionScattered, scatterCheck, placeCheck}
 use Rattle.scatter.proofs.Checking.{ready}
 use Rattle.scatter.proofs.Scattering.{acceptance}
@@ -181,10 +180,17 @@ region-accepted order h dt gravity regions ids ranges count particles s t i e f 
     acceptance .by-lengths (placeCheck (placeAt order i) regions) h dt gravity regions ids ranges count particles t s f w
     ∙ other-own Done (placeCheck (placeAt order i) regions) h dt gravity regions ids ranges count particles (length (s .floats)) (length (s .words)) (turn .accepted) own .1
 
--- ---- one region more, by a call that is done
+-- what is behind the check of each may build on that of the order
+pub turn-ready : (order : List ℕ) (h dt : Float) (gravity : List Float) (regions : ℕ) (ids ranges : List ℕ) (count : ℕ) (particles : Store) (nf : List Float) (nw : List ℕ)
+    → orderCheck order h dt gravity regions ids ranges count particles (length nf) (length nw) ≡ Done → ((i : ℕ) → i < length order → placeAt order i < length ids) × Ready h ids ranges particles (store nf nw)
+turn-ready order h dt gravity regions ids ranges count particles nf nw e =
+    let turn = turned order h dt gravity regions ids ranges count particles (length nf) (length nw) e in
+    (place ids order (turn .in-turn), ready Done h dt gravity regions ids ranges count particles nf nw (ap refused (turn .accepted)) .ready)
 
-pub one-more : (h dt : Float) (gravity : List Float) (ids ranges : List ℕ) (particles : Store) (order : List ℕ) (n : ℕ) (s t u : Store) (a : Answer) → a ≡ Done
-    → t ≡ inOrder h dt gravity ids ranges particles order n s → u ≡ settle (refused a) t (regionScattered h dt gravity ids ranges particles (placeAt order n) t)
+-- ---- one region more
+
+pub one-more : (h dt : Float) (gravity : List Float) (ids ranges : List ℕ) (particles : Store) (order : List ℕ) (n : ℕ) (s t u : Store)
+    → t ≡ inOrder h dt gravity ids ranges particles order n s → u ≡ regionScattered h dt gravity ids ranges particles (placeAt order n) t
     → u ≡ inOrder h dt gravity ids ranges particles order (n + 1) s
 unfolding inOrder
-one-more h dt gravity ids ranges particles order n s t u a d e f = f ∙ rw (d, e, add-one)
+one-more h dt gravity ids ranges particles order n s t u e f = f ∙ rw (e, add-one)

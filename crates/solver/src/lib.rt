@@ -2,21 +2,21 @@
 pub mod step;
 
 ghost use mathlib.Core.Path.{_≡_};
-ghost use Prim.Native.Nat.{_<_};
+ghost use Prim.Native.Nat.{ℕ, _<_};
 ghost use lib.ListN.{length};
 ghost use Rattle.packing.specs.Ids.{dim2, colour};
 ghost use Rattle.numeric.specs.Axes.{axes};
 ghost use Rattle.laws.specs.Store.{store};
 ghost use Rattle.laws.specs.Refusals.{settle};
 ghost use Rattle.grid.specs.Answers.{refused};
-ghost use Rattle.grid.specs.declared.Answer.the-variants.{Done};
+ghost use Rattle.particles.specs.Table.{Ready};
 ghost use Rattle.scatter.specs.Scatter.{scattered};
-ghost use Rattle.solver.specs.Order.{colourAt, repeated, outOfTurn, turns, orderCheck, inOrder};
+ghost use Rattle.solver.specs.Order.{placeAt, colourAt, repeated, outOfTurn, turns, orderCheck, inOrder};
 use grid::Answer;
 use grid::Rule;
 use numeric::dim2::Vector;
 use scatter::inner::check_scatter;
-use scatter::particle_to_grid::particle_to_grid_scatter_region;
+use scatter::inner::scatter_at;
 
 // The regions one by one, in an order of their places: each once, colours 0 to 3 in turn. It leaves what the full scatter leaves; or the call is refused, and nothing changes.
 pub fn scatter_in_order(
@@ -56,61 +56,30 @@ pub fn scatter_in_order(
     let Answer::Done = a else {
         return a;
     };
-    scatter_regions(
-        order,
-        cell_width,
-        dt,
-        gravity,
-        regions,
-        ids,
-        ranges,
-        particles,
-        pf,
-        pw,
-        nf,
-        nw,
-    );
+    scatter_regions(order, cell_width, dt, gravity, ids, ranges, pf, pw, nf, nw);
     Answer::Done
 }
 
-// The calls, of which none is refused.
+// What the regions' own calls would make behind their checks, of which none would refuse.
 fn scatter_regions(
     order: &[u64],
     cell_width: f32,
     dt: f32,
     gravity: Vector,
-    regions: usize,
     ids: &[u64],
     ranges: &[u64],
-    particles: usize,
     pf: &[f32],
     pw: &[u32],
     nf: &mut [f32],
     nw: &mut [u32],
 )
-    requires { ⌜ orderCheck (now order) «cell_width» dt (axes gravity) regions (now ids) (now ranges) particles (store (now pf) (now pw)) (length (now nf)) (length (now nw)) ≡ Done ⌝ }
+    requires { ⌜ ((i : ℕ) → i < length (now order) → placeAt (now order) i < length (now ids)) × Ready «cell_width» (now ids) (now ranges) (store (now pf) (now pw)) (store (now nf) (now nw)) ⌝ }
     ensures { λ _. ⌜ store (now (nf .exit)) (now (nw .exit)) ≡ inOrder «cell_width» dt (axes gravity) (now (ids .entry)) (now (ranges .entry)) (store (now (pf .entry)) (now (pw .entry))) (now (order .entry)) (length (now (order .entry))) (store (now (nf .entry)) (now (nw .entry))) ⌝ }
 {
     let mut i = 0;
     while i < order.len() {
         let place = order[i] as usize;
-        let a = particle_to_grid_scatter_region(
-            place,
-            cell_width,
-            dt,
-            gravity,
-            regions,
-            ids,
-            ranges,
-            particles,
-            pf,
-            pw,
-            nf,
-            nw,
-        );
-        let Answer::Done = a else {
-            return;
-        };
+        scatter_at(cell_width, dt, gravity, ids, ranges, pf, pw, place, nf, nw);
         i += 1;
     }
 }

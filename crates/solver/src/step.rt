@@ -1,14 +1,16 @@
 // Clear, scatter and update in turn.
 ghost use mathlib.Core.Path.{_≡_};
 ghost use mathlib.Core.Bool.{false};
+ghost use mathlib.Core.List.{[], _∷_};
 ghost use Prim.Native.Nat.{_*_, _≤_};
 ghost use lib.ListN.{length};
 ghost use Rattle.numeric.specs.Axes.{axes};
 ghost use Rattle.laws.specs.Store.{store};
 ghost use Rattle.laws.specs.Refusals.{settle};
-ghost use Rattle.grid.specs.Answers.{refused};
-ghost use Rattle.grid.specs.Table.{rangeWords};
+ghost use Rattle.grid.specs.Answers.{refused, first};
+ghost use Rattle.grid.specs.Table.{flags, numbers, rangeWords};
 ghost use Rattle.particles.specs.Particles.{particleFloats, particleWords};
+ghost use Rattle.update.specs.Update.{colliderFloats, projectionFloats};
 ghost use Rattle.solver.specs.Clearing.{stepCheck, recordsCheck, stepped, EmptyElsewhere};
 use grid::Answer;
 use grid::Rule;
@@ -27,7 +29,8 @@ use numeric::dim2::Vector;
 use particles::inner::checks::check_places;
 use particles::inner::checks::first_particle;
 use particles::inner::checks::holds_particles;
-use scatter::particle_to_grid::particle_to_grid_scatter;
+use particles::inner::checks::is_accepted;
+use scatter::inner::scatter_all;
 use update::grid_update::COLLIDER_FLOATS;
 use update::grid_update::PROJECTION_FLOATS;
 use update::grid_update::grid_update;
@@ -81,19 +84,7 @@ pub fn clear_scatter_update(
         return a;
     };
     grid::clear(regions, ids, nf, nw);
-    particle_to_grid_scatter(
-        cell_width,
-        dt,
-        gravity,
-        regions,
-        ids,
-        ranges,
-        particles,
-        pf,
-        pw,
-        nf,
-        nw,
-    );
+    scatter_all(cell_width, dt, gravity, ids, ranges, pf, pw, nf, nw);
     grid_update(
         cell_width,
         dt,
@@ -164,6 +155,9 @@ fn check_records(
     requires { ⌜ (length (now ids) * rangeWords ≤ length (now ranges)) × (particles * particleFloats ≤ length (now pf)) × (particles * particleWords ≤ length (now pw)) ⌝ }
     ensures { λ a. ⌜ a ≡ recordsCheck «cell_width» (now (ids .entry)) (now (ranges .entry)) particles (store (now (pf .entry)) (now (pw .entry))) (now (cf .entry)) (store (now (jf .entry)) (now (jw .entry))) ⌝ }
 {
+    if is_accepted(cell_width, ids, ranges, pf, pw, particles) {
+        return check_given(cf, jf, jw);
+    }
     first_refusal(
         first_particle(Rule::Code, cell_width, ids, 0, pf, pw, 0, particles),
         first_refusal(
@@ -178,6 +172,19 @@ fn check_records(
                     ),
                 ),
             ),
+        ),
+    )
+}
+
+// Numbers 4 and 5 of colliders and projections, where no particle breaks a rule.
+fn check_given(cf: &[f32], jf: &[f32], jw: &[u32]) -> Answer
+    ensures { λ a. ⌜ a ≡ first (flags (now (jw .entry)) ∷ numbers colliderFloats (now (cf .entry)) ∷ numbers projectionFloats (now (jf .entry)) ∷ []) ⌝ }
+{
+    first_refusal(
+        check_flags(jw),
+        first_refusal(
+            check_numbers(cf, COLLIDER_FLOATS),
+            check_numbers(jf, PROJECTION_FLOATS),
         ),
     )
 }

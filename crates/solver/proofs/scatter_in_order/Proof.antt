@@ -9,7 +9,7 @@ use Rattle.laws.specs.Store.{store}
 use Rattle.laws.proofs.Refusals.{settle-old}
 use Rattle.grid.proofs.Answers.{stops}
 use Rattle.solver.proofs.Demand.{same-bits}
-use Rattle.solver.proofs.Turning.{too-long, then-scatter, turned}
+use Rattle.solver.proofs.Turning.{too-long, then-scatter, turned, turn-ready}
 use Rattle.solver.proofs.scatter_in_order.Statement.{statement}
 use Rattle.solver.proofs.scatter_in_order.Tie as tie
 
@@ -24,7 +24,9 @@ returns-2 c = (
 
 scatter-regions-requires : tie.Need-scatter-regions-requires
 scatter-regions-requires c κs =
-    sym (then-scatter _ _ _ _ _ _ _ _ _ _ _ _ _ (c .before .before .before .before .before .before .if1 .left) (c .before .before .before .before .before .check-order .ensures) (c .before .before .before .before .check-scatter .ensures)) ∙ c .before .before .enum-told .given .1
+    let g = c .before .before .before .before .before .before .before .before .before .before .before .before .before .before .args in
+    turn-ready (now (g .order)) (g .cell-width) (g .dt) (axes (g .gravity)) (g .regions) (now (g .ids)) (now (g .ranges)) (g .particles) (store (now (g .pf)) (now (g .pw))) (now (g .nf)) (now (g .nw))
+    (sym (then-scatter _ _ _ _ _ _ _ _ _ _ _ _ _ (c .before .before .before .before .before .before .if1 .left) (c .before .before .before .before .before .check-order .ensures) (c .before .before .before .before .check-scatter .ensures)) ∙ c .before .before .enum-told .given .1)
 
 returns-3 : tie.Need-returns-3
 returns-3 c =

@@ -1,55 +1,65 @@
--- `scatter::particle_to_grid::scatter_particle` meets its contract: the cells of the stencil but those left are hit.
+-- `scatter::particle_to_grid::scatter_particle` meets its contract: the columns of the stencil below i are hit.
 -- Assumes nothing.
-use mathlib.Core.Path.{_≡_, _∙_}
-use Prim.Native.Nat.{_*_, _-_, _≤_}
+use mathlib.Core.List.{List}
+use mathlib.Core.Path.{_≡_, ap, _∙_}
+use Prim.Native.Nat.{_-_, _≤_}
 use native.Mathlib.Omega.{arith}
 use borrow.Author.Needs.{needs}
-use lib.ListN.{length}
+use lib.Ieee.{Float, nan}
+use lib.ListN.{length, getD}
 use denote.Ref.{now}
 use Rattle.numeric.specs.Axes.{axes}
 use Rattle.laws.specs.Store.{store, Holds}
 use Rattle.laws.specs.Hits.{run, gather}
-use Rattle.laws.proofs.Hits.{run-none, run-left}
-use Rattle.cells.specs.Stencil.{stencilCells}
-use Rattle.grid.specs.Nodes.{nodeForm, nodes, regionCells}
-use Rattle.scatter.specs.Scatter.{particleHits}
-use Rattle.scatter.proofs.Hitting.{cellHits, these-hits}
+use Rattle.laws.proofs.Hits.{run-none, run-more}
+use Rattle.cells.specs.Stencil.{stepAt}
+use Rattle.grid.specs.Nodes.{nodeForm, nodes}
+use Rattle.particles.specs.Blocks.{cornerAt, cornerOf}
+use Rattle.scatter.specs.Hit.{changedFor, changedBy}
+use Rattle.scatter.specs.Scatter.{columnHits, blockHits}
+use Rattle.scatter.proofs.Hitting.{among}
 use Rattle.scatter.proofs.particle_to_grid.scatter_particle.Statement.{statement}
 use Rattle.scatter.proofs.particle_to_grid.scatter_particle.Tie as tie
 
 abbrev Inv-loop : tie.InvT-loop
-Inv-loop h ids nf₀ nw₀ dir load w stencil left₀ nf nw left =
-    (left ≤ stencilCells) × Holds nodeForm (store nf nw) (length ids * regionCells)
-    × (store nf nw ≡ run nodes (gather (cellHits h ids stencil (axes dir) load) (stencilCells - left)) (store nf₀ nw₀))
+Inv-loop h block nf₀ nw₀ dir load w corner i₀ nf nw i =
+    (i ≤ 3) × Holds nodeForm (store nf nw) (length nw₀)
+    × (store nf nw ≡ run nodes (gather (λ i. columnHits block (changedBy h (axes dir) load) corner (stepAt i)) i) (store nf₀ nw₀))
 
 abbrev μ-loop : tie.MeasureT-loop
-μ-loop h ids nf₀ nw₀ dir load w stencil left₀ nf nw left = left
+μ-loop h block nf₀ nw₀ dir load w corner i₀ nf nw i = 3 - i
 
 loop-holds : tie.Need-loop-holds Inv-loop μ-loop
-loop-holds c = (omega arith, c .before .before .before .before .before .before .before .before .pre, run-none nodes (cellHits _ _ _ _ _) _)
+loop-holds c = (omega arith, c .before .before .before .before .before .before .before .pre .1, run-none nodes _ _)
 
-hit-requires : tie.Need-hit-requires Inv-loop μ-loop
-hit-requires c κs = let n = c .before .before .nbh-shift in (c .before .before .before .before .before .before .before .precompute-weights .ensures, n .ensures .1, n .ensures .2, c .before .before .before .before .loop .inv .1)
+hit-column-requires : tie.Need-hit-column-requires Inv-loop μ-loop
+hit-column-requires c κs =
+    let places = among (now (c .before .before .before .before .before .before .before .before .before .before .before .before .args .block)) _ _ _ (c .before .before .before .before .before .before .before .before .before .before .before .before .pre .0) (c .before .before .before .before .loop .inv .1) in
+    (c .before .before .before .before .before .before .precompute-weights .ensures, c .before .before .before .before .before .corner-of .ensures .1, c .before .before .step .ensures .1, places .0, places .1)
 
 loop-again : tie.Need-loop-again Inv-loop μ-loop
-unfolding cellHits
 loop-again c =
     let l = c .before .before .before .before .before .before .before .before .before .loop in
-    let kept = c .before .before .before .before .hit .kept in
-    let g = c .before .before .before .before .before .before .before .before .before .before .before .before .before .before .before .before .before .before .args in (
+    let kept = c .before .before .before .before .hit-column .kept in
+    let g = c .before .before .before .before .before .before .before .before .before .before .before .before .before .before .before .before .before .args in (
       omega arith,
       record { floats-long = omega (arith, l .inv .1 .floats-long, kept); words-long = omega (arith, l .inv .1 .words-long, kept) },
-      run-left nodes (cellHits (g .cell-width) (now (g .ids)) (c .before .before .before .before .before .before .before .before .before .before .stencil .result) (axes (c .before .before .before .before .before .before .before .before .before .before .before .before .before .before .dir-to-associated-grid-node .result)) (c .before .before .before .before .before .before .before .before .before .before .before .before .before .load-of .result))
-          stencilCells (l .left) _ _ _ (omega arith) (omega arith) (l .inv .2) (c .before .before .before .before .hit .ensures ∙ rw (c .before .before .before .before .before .before .before .nbh-shift .ensures .0)),
+      run-more nodes (λ i. columnHits (now (g .block)) (changedBy (g .cell-width) (axes (c .before .before .before .before .before .before .before .before .before .before .before .before .before .dir-to-associated-grid-node .result)) (c .before .before .before .before .before .before .before .before .before .before .before .before .load-of .result)) (c .before .before .before .before .before .before .before .before .before .before .corner-of .result) (stepAt i)) _ _ (l .inv .2)
+          (rw (c .before .before .before .before .before .before .before .step .ensures .0) at (c .before .before .before .before .hit-column .ensures)),
     )
 
 returns : tie.Need-returns Inv-loop μ-loop
-unfolding particleHits
+unfolding blockHits
 returns c =
-    let e : stencilCells - c .before .loop .left ≡ stencilCells = omega arith in
-    let g = c .before .before .before .before .before .before .before .before .before .before .args in
-    c .before .loop .inv .2
-    ∙ rw (e, c .before .before .stencil .ensures, c .before .before .before .cell-associated-to-point .ensures, c .before .before .before .before .before .before .dir-to-associated-grid-node .ensures, these-hits (g .cell-width) (g .pass) (now (g .ids)) (g .q) (c .before .before .before .before .before .load-of .result) (c .before .before .before .before .before .load-of .ensures))
+    let g = c .before .before .before .before .before .before .before .before .before .args in
+    let e : c .before .loop .i ≡ 3 = omega arith in
+    let load = c .before .before .before .before .load-of in
+    let change : changedBy (g .cell-width) (axes (c .before .before .before .before .before .dir-to-associated-grid-node .result)) (load .result) ≡ changedFor (g .cell-width) (g .pass) (g .q)
+    = ap (λ (dir : List Float). changedBy (g .cell-width) dir (load .result)) (c .before .before .before .before .before .dir-to-associated-grid-node .ensures) ∙ load .ensures in
+    let corner : c .before .before .corner-of .result ≡ cornerOf (g .cell-width) (g .q)
+    = c .before .before .corner-of .ensures .0 ∙ ap (λ (near : List Float). cornerAt (getD near 0 nan) (getD near 1 nan)) (c .before .before .before .before .before .before .nearest .ensures) in
+    c .before .loop .inv .2 ∙ rw (e, change, corner)
 
 pub scatter-particle-spec : {M : Type 1} → statement M
-scatter-particle-spec = tie.close (tie.spec Inv-loop μ-loop (λ c κs. search needs) (λ c κs. search needs) (λ c κs. search needs) (λ c κs. search needs) (λ c κs. search needs) loop-holds (λ c. search needs) (λ c. search needs) (λ c. search needs) (λ c κs. search needs) hit-requires (λ c. search needs) (λ c. search needs) loop-again (λ c. search needs) (λ c. search needs) returns)
+scatter-particle-spec =
+    tie.close (tie.spec Inv-loop μ-loop (λ c κs. search needs) (λ c κs. search needs) (λ c κs. search needs) (λ c κs. search needs) (λ c κs. search needs) loop-holds (λ c κs. search needs) hit-column-requires (λ c. search needs) (λ c. search needs) loop-again (λ c. search needs) (λ c. search needs) returns)

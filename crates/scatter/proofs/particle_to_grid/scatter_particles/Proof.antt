@@ -1,7 +1,7 @@
 -- `scatter::particle_to_grid::scatter_particles` meets its contract: all particles but those left are scattered.
 -- Assumes nothing.
 use mathlib.Core.Path.{_≡_, _∙_}
-use Prim.Native.Nat.{_+_, _*_, _-_, _≤_}
+use Prim.Native.Nat.{_+_, _-_, _≤_}
 use native.Mathlib.Omega.{arith}
 use borrow.Author.Needs.{needs}
 use lib.ListN.{length}
@@ -9,55 +9,49 @@ use denote.Ref.{now}
 use Rattle.laws.specs.Store.{store, Holds}
 use Rattle.laws.specs.Hits.{run, gather}
 use Rattle.laws.proofs.Hits.{run-none, run-left}
-use Rattle.grid.specs.Nodes.{nodeForm, nodes, regionCells}
+use Rattle.grid.specs.Nodes.{nodeForm, nodes}
+use Rattle.particles.specs.Blocks.{cornerOf}
 use Rattle.particles.specs.Particles.{particleAt}
 use Rattle.scatter.specs.Hit.{changedFor}
-use Rattle.scatter.specs.Scatter.{particleHits, rangeHits}
+use Rattle.scatter.specs.Scatter.{blockHits, nearHits}
+use Rattle.scatter.proofs.Hitting.{among}
 use Rattle.scatter.proofs.particle_to_grid.scatter_particles.Statement.{statement}
 use Rattle.scatter.proofs.particle_to_grid.scatter_particles.Tie as tie
 
 abbrev Inv-loop : tie.InvT-loop
-Inv-loop h pass ids ranges pf pw start count nf₀ nw₀ left₀ nf nw left =
-    (left ≤ count) × Holds nodeForm (store nf nw) (length ids * regionCells)
-    × (store nf nw ≡ run nodes (gather (λ j. particleHits h (changedFor h pass) ids (particleAt (store pf pw) (start + j))) (count - left)) (store nf₀ nw₀))
+Inv-loop h pass block pf pw start count nf₀ nw₀ left₀ nf nw left =
+    (left ≤ count) × Holds nodeForm (store nf nw) (length nw₀)
+    × (store nf nw ≡ run nodes (gather (λ j. let q = particleAt (store pf pw) (start + j) in blockHits block (changedFor h pass q) (cornerOf h q)) (count - left)) (store nf₀ nw₀))
 
 abbrev μ-loop : tie.MeasureT-loop
-μ-loop h pass ids ranges pf pw start count nf₀ nw₀ left₀ nf nw left = left
+μ-loop h pass block pf pw start count nf₀ nw₀ left₀ nf nw left = left
 
 loop-holds : tie.Need-loop-holds Inv-loop μ-loop
-loop-holds c =
-    let n = c .before .before .before .before .before .before .args .count in
-    let e : n - n ≡ 0 = omega arith in
-    (omega arith, c .before .before .before .before .before .before .pre .1 .nodes-held, rw e (run-none nodes _ _))
+loop-holds c = let n = c .before .before .before .before .args .count in let e : n - n ≡ 0 = omega arith in (omega arith, c .before .before .before .before .pre .3, rw e (run-none nodes _ _))
 
 add-read-particle : tie.Need-add-read-particle Inv-loop μ-loop
-add-read-particle c = omega (arith, c .before .before .before .before .before .before .before .before .pre .0)
+add-read-particle c = omega (arith, c .before .before .before .before .before .before .pre .0)
 
 read-particle-requires : tie.Need-read-particle-requires Inv-loop μ-loop
-read-particle-requires c κs =
-    let held = c .before .before .before .before .before .before .before .before .pre .1 .particles-held in
-    (omega (arith, c .before .before .before .before .before .before .before .before .pre .0), omega (arith, c .before .before .before .before .before .before .before .before .pre .0, held .floats-long, held .words-long))
+read-particle-requires c κs = (omega (arith, c .before .before .before .before .before .before .pre .0), omega (arith, c .before .before .before .before .before .before .pre .1))
 
 scatter-particle-requires : tie.Need-scatter-particle-requires Inv-loop μ-loop
-scatter-particle-requires c κs = c .before .before .before .before .loop .inv .1
+scatter-particle-requires c κs = among (now (c .before .before .before .before .before .before .before .before .before .args .block)) _ _ _ (c .before .before .before .before .before .before .before .before .before .pre .2) (c .before .before .before .before .loop .inv .1)
 
 loop-again : tie.Need-loop-again Inv-loop μ-loop
 loop-again c =
     let l = c .before .before .before .before .before .before .before .before .before .loop in
     let kept = c .before .before .before .before .scatter-particle .kept in
-    let g = c .before .before .before .before .before .before .before .before .before .before .before .before .before .before .before .before .args in (
+    let g = c .before .before .before .before .before .before .before .before .before .before .before .before .before .before .args in (
       omega arith,
       record { floats-long = omega (arith, l .inv .1 .floats-long, kept); words-long = omega (arith, l .inv .1 .words-long, kept) },
-      run-left nodes (λ j. particleHits (g .cell-width) (changedFor (g .cell-width) (g .pass)) (now (g .ids)) (particleAt (store (now (g .pf)) (now (g .pw))) (g .start + j)))
-          (g .count) (l .left) _ _ _ (omega arith) (omega arith) (l .inv .2) (c .before .before .before .before .scatter-particle .ensures ∙ rw (c .before .before .before .before .before .before .before .read-particle .ensures)),
+      run-left nodes (λ j. let q = particleAt (store (now (g .pf)) (now (g .pw))) (g .start + j) in blockHits (now (g .block)) (changedFor (g .cell-width) (g .pass) q) (cornerOf (g .cell-width) q))
+          (g .count) (l .left) _ _ _ (omega arith) (omega arith) (l .inv .2) (rw (c .before .before .before .before .before .before .before .read-particle .ensures) at (c .before .before .before .before .scatter-particle .ensures)),
     )
 
 returns : tie.Need-returns Inv-loop μ-loop
-unfolding rangeHits
-returns c =
-    let n = c .before .before .before .before .before .before .before .before .args .count in
-    let e : n - c .before .loop .left ≡ n = omega arith in
-    c .before .loop .inv .2 ∙ rw e
+unfolding nearHits
+returns c = let n = c .before .before .before .before .before .before .args .count in let e : n - c .before .loop .left ≡ n = omega arith in c .before .loop .inv .2 ∙ rw e
 
 pub scatter-particles-spec : {M : Type 1} → statement M
 scatter-particles-spec =
