@@ -5,15 +5,21 @@ use mathlib.Core.List.{List, [], _∷_}
 use Prim.Native.Nat.{ℕ, _*_}
 use lib.Ieee.{Float}
 use lib.ListN.{length}
+use Rattle.packing.specs.Ids.{dim2, region}
+use Rattle.numeric.specs.Bits.{none}
+use Rattle.numeric.specs.Kernel.{precomputeWeights}
 use Rattle.laws.specs.Store.{Store, store, Holds}
 use Rattle.laws.specs.Hits.{run}
 use Rattle.laws.proofs.Hits as Hits
+use Rattle.cells.specs.Cells.{cellAssociatedToPoint}
+use Rattle.cells.specs.Stencil.{dirToAssociatedGridNode}
 use Rattle.grid.specs.Answers.{refused}
 use Rattle.grid.specs.Nodes.{nodeForm, nodeAt, nodes, regionCells, reads, stores}
 use Rattle.grid.specs.Table.{goodWidth}
 use Rattle.grid.specs.declared.Answer.the-variants.{Done}
 use Rattle.grid.specs.declared.grid_node.GridNode.{GridNode}
 use Rattle.grid.proofs.Changing as Changing
+use Rattle.particles.specs.Blocks.{IsBlock}
 use Rattle.particles.specs.Particles.{particleAt, positionOf}
 use Rattle.particles.specs.declared.particle.Particle.{Particle}
 use Rattle.particles.proofs.Staging.{Staged, staged}
@@ -21,8 +27,9 @@ use Rattle.scatter.specs.Hit.{weighed, weighedNode}
 use Rattle.scatter.specs.Scatter.{scatterHits, massScattered}
 use Rattle.scatter.proofs.Scattering.{scatter-laws, scatter-within, by-particles}
 use Rattle.gather.specs.Transfer.{on}
+use Rattle.gather.proofs.Columns.{over-columns}
 use Rattle.gather.proofs.Gathering as Gathering
-use Rattle.fluids.specs.Fluids.{gathered, withVolume, recomputed, massless, volumes, emptied, particlesAfter, nodesAfter, fluidsCheck, AllButVolume, Laws}
+use Rattle.fluids.specs.Fluids.{gathered, withVolume, recomputed, weighing, gatheredIn, recomputedIn, massless, volumes, emptied, particlesAfter, nodesAfter, fluidsCheck, AllButVolume, Laws}
 
 pub ready : (h : Float) (regions : ℕ) (ids ranges : List ℕ) (count : ℕ) (q : Store) (nf : List Float) (nw : List ℕ)
     → refused (fluidsCheck h regions ids ranges count q (length nf) (length nw)) ≡ false → Staged Done h regions ids ranges count q (store nf nw)
@@ -30,6 +37,16 @@ unfolding fluidsCheck
 ready h regions ids ranges count q nf nw e = staged (goodWidth h ∷ []) Done h regions ids ranges count q nf nw e
 
 -- ---- particles
+
+-- by the block of its own region a particle is recomputed as by its stencil
+module _ (h : Float) (ids : List ℕ) (s : Store) (r : ℕ) (block : List ℕ) (is : IsBlock ids r block) (q : Particle) (own : region (cellAssociatedToPoint dim2 h (positionOf q)) ≡ r) where
+  gathered-in : gatheredIn h block s q ≡ gathered h ids s (positionOf q)
+  unfolding gatheredIn gathered
+  gathered-in = over-columns h ids s r block is q own (weighing (precomputeWeights (dirToAssociatedGridNode h (positionOf q)) h)) none
+
+  pub recomputed-in : recomputedIn h block s q ≡ recomputed h ids s q
+  unfolding recomputedIn recomputed
+  recomputed-in = ap (λ (mass : Float). cond (on (q .fluid)) (withVolume h mass q) q) gathered-in
 
 solid-stays : (h : Float) (ids : List ℕ) (s : Store) (q : Particle) → on (q .fluid) ≡ false → recomputed h ids s q ≡ q
 unfolding recomputed

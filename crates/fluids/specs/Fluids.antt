@@ -18,12 +18,13 @@ use Rattle.grid.specs.Table.{goodWidth}
 use Rattle.grid.specs.declared.Answer.{Answer}
 use Rattle.grid.specs.declared.Answer.the-variants.{Done}
 use Rattle.grid.specs.declared.grid_node.GridNode.{GridNode}
+use Rattle.particles.specs.Blocks.{cornerOf}
 use Rattle.particles.specs.Particles.{particleForm, particleAt, particles, positionOf}
 use Rattle.particles.specs.Table.{stageCheck}
 use Rattle.particles.specs.declared.particle.Particle.{Particle}
 use Rattle.scatter.specs.Scatter.{massScattered}
 use Rattle.gather.specs.Transfer.{entry00, on}
-use Rattle.gather.specs.Gather.{overStencil}
+use Rattle.gather.specs.Gather.{overStencil, overColumns}
 
 -- ---- one particle
 
@@ -68,6 +69,18 @@ withVolume h mass q =
 -- for fluids; a solid stays
 unfoldable pub recomputed : Float → List ℕ → Store → Particle → Particle
 recomputed h ids s q = cond (on (q .fluid)) (withVolume h (gathered h ids s (positionOf q)) q) q
+
+-- ---- as the code goes: by the places of the block of the particle's region, column by column
+
+-- what one node adds, by the particle's weights
+abbrev pub weighing : List (List Float) → List ℕ → GridNode → Float → Float
+weighing w shift n mass = mass ⊕ weightOf w shift ⊗ n .mass
+
+unfoldable pub gatheredIn : Float → List ℕ → Store → Particle → Float
+gatheredIn h block s q = overColumns s (weighing (precomputeWeights (dirToAssociatedGridNode h (positionOf q)) h)) block (cornerOf h q) 3 none
+
+unfoldable pub recomputedIn : Float → List ℕ → Store → Particle → Particle
+recomputedIn h block s q = cond (on (q .fluid)) (withVolume h (gatheredIn h block s q) q) q
 
 -- ---- one node: its mass is 0, and all else stays
 

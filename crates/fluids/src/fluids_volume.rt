@@ -1,26 +1,35 @@
 // Fluids' volumes, recomputed from the mass of all particles.
 ghost use mathlib.Core.Path.{_≡_};
-ghost use Prim.Native.Nat.{_*_};
+ghost use Prim.Native.Nat.{_*_, _<_};
 ghost use lib.ListN.{length};
 ghost use Rattle.laws.specs.Store.{store, Holds};
+ghost use Rattle.laws.specs.Hits.{run};
 ghost use Rattle.laws.specs.Refusals.{settle};
 ghost use Rattle.grid.specs.Answers.{refused};
 ghost use Rattle.grid.specs.Nodes.{nodeForm, regionCells};
-ghost use Rattle.particles.specs.Particles.{particleForm, positionOf};
+ghost use Rattle.grid.specs.Table.{before};
+ghost use Rattle.particles.specs.Particles.{particles};
 ghost use Rattle.particles.specs.Table.{Ready};
-ghost use Rattle.fluids.specs.Fluids.{gathered, withVolume, recomputed, massless, volumes, emptied, particlesAfter, nodesAfter, fluidsCheck};
-use cells::inner::STENCIL_CELLS;
+ghost use Rattle.gather.specs.Gather.{overColumn, Serves, Ranged, changesFrom};
+ghost use Rattle.fluids.specs.Fluids.{weighing, gatheredIn, withVolume, recomputed, recomputedIn, massless, volumes, emptied, particlesAfter, nodesAfter, fluidsCheck};
+use cells::inner::STENCIL_SIDE;
 use cells::inner::dir_to_associated_grid_node;
-use cells::inner::nbh_shift;
+use cells::inner::nearest;
+use cells::inner::step;
 use cells::inner::weight;
-use gather::inner::node_of;
+use gather::inner::node_in;
 use grid::Answer;
 use grid::grid_node::CELLS_OF_REGION;
 use grid::grid_node::GridNode;
+use grid::inner::count_of;
 use grid::inner::is_width;
 use grid::inner::read_node;
+use grid::inner::start_of;
 use grid::inner::write_node;
 use numeric::dim2::Matrix;
+use packing::dim2::Cell;
+use particles::inner::blocks::block_of;
+use particles::inner::blocks::corner_of;
 use particles::inner::checks::check_stage;
 use particles::inner::read_particle;
 use particles::inner::write_particle;
@@ -57,7 +66,7 @@ pub fn recompute_fluids_volumes(
     let Answer::Done = a else {
         return a;
     };
-    recompute_volumes(cell_width, ids, ranges, particles, pf, pw, nf, nw);
+    recompute_volumes(cell_width, ids, ranges, pf, pw, nf, nw);
     Answer::Done
 }
 
@@ -94,71 +103,125 @@ fn recompute_volumes(
     cell_width: f32,
     ids: &[u64],
     ranges: &[u64],
-    particles: usize,
     pf: &mut [f32],
     pw: &mut [u32],
     nf: &mut [f32],
     nw: &mut [u32],
 )
-    requires { ⌜ Holds particleForm (store (now pf) (now pw)) particles × Ready «cell_width» (now ids) (now ranges) (store (now pf) (now pw)) (store (now nf) (now nw)) ⌝ }
-    ensures { λ _. ⌜ (store (now (pf .exit)) (now (pw .exit)) ≡ particlesAfter «cell_width» (now (ids .entry)) (now (ranges .entry)) particles (store (now (pf .entry)) (now (pw .entry))) (store (now (nf .entry)) (now (nw .entry))))
-        × (store (now (nf .exit)) (now (nw .exit)) ≡ nodesAfter «cell_width» (now (ids .entry)) (now (ranges .entry)) particles (store (now (pf .entry)) (now (pw .entry))) (store (now (nf .entry)) (now (nw .entry)))) ⌝ }
+    requires { ⌜ Ready «cell_width» (now ids) (now ranges) (store (now pf) (now pw)) (store (now nf) (now nw)) ⌝ }
+    ensures { λ _. ⌜ (store (now (pf .exit)) (now (pw .exit)) ≡ particlesAfter «cell_width» (now (ids .entry)) (now (ranges .entry)) (before (now (ranges .entry)) (length (now (ids .entry)))) (store (now (pf .entry)) (now (pw .entry))) (store (now (nf .entry)) (now (nw .entry))))
+        × (store (now (nf .exit)) (now (nw .exit)) ≡ nodesAfter «cell_width» (now (ids .entry)) (now (ranges .entry)) (before (now (ranges .entry)) (length (now (ids .entry)))) (store (now (pf .entry)) (now (pw .entry))) (store (now (nf .entry)) (now (nw .entry)))) ⌝ }
 {
     scatter_mass(cell_width, ids, ranges, pf, pw, nf, nw);
-    gather_volumes(cell_width, ids, particles, pf, pw, nf, nw);
+    gather_volumes(cell_width, ids, ranges, pf, pw, nf, nw);
     reset_masses(ids.len(), nf, nw);
 }
 
+// Region by region, each by the places of its block.
 fn gather_volumes(
     cell_width: f32,
     ids: &[u64],
-    particles: usize,
+    ranges: &[u64],
     pf: &mut [f32],
     pw: &mut [u32],
     nf: &[f32],
     nw: &[u32],
 )
-    requires { ⌜ Holds particleForm (store (now pf) (now pw)) particles × Holds nodeForm (store (now nf) (now nw)) (length (now ids) * regionCells) ⌝ }
-    ensures { λ _. ⌜ store (now (pf .exit)) (now (pw .exit)) ≡ volumes «cell_width» (now (ids .entry)) (store (now (nf .entry)) (now (nw .entry))) particles (store (now (pf .entry)) (now (pw .entry))) ⌝ }
+    requires { ⌜ Ready «cell_width» (now ids) (now ranges) (store (now pf) (now pw)) (store (now nf) (now nw)) ⌝ }
+    ensures { λ _. ⌜ store (now (pf .exit)) (now (pw .exit)) ≡ volumes «cell_width» (now (ids .entry)) (store (now (nf .entry)) (now (nw .entry))) (before (now (ranges .entry)) (length (now (ids .entry)))) (store (now (pf .entry)) (now (pw .entry))) ⌝ }
 {
-    let mut p = 0;
-    while p < particles {
+    let mut r = 0;
+    while r < ids.len() {
+        gather_range(
+            cell_width,
+            ids,
+            ids[r],
+            start_of(ranges, r),
+            count_of(ranges, r),
+            pf,
+            pw,
+            nf,
+            nw,
+        );
+        r += 1;
+    }
+}
+
+// `count` particles of a region, from `start` on.
+fn gather_range(
+    cell_width: f32,
+    ids: &[u64],
+    region_id: u64,
+    start: usize,
+    count: usize,
+    pf: &mut [f32],
+    pw: &mut [u32],
+    nf: &[f32],
+    nw: &[u32],
+)
+    requires { ⌜ Ranged «cell_width» (now ids) «region_id» start count (store (now pf) (now pw)) (store (now nf) (now nw)) ⌝ }
+    ensures { λ _. ⌜ store (now (pf .exit)) (now (pw .exit)) ≡ run particles (changesFrom (recomputed «cell_width» (now (ids .entry)) (store (now (nf .entry)) (now (nw .entry)))) start count) (store (now (pf .entry)) (now (pw .entry))) ⌝ }
+{
+    let block = block_of(ids, region_id);
+    let mut k = 0;
+    while k < count {
+        let p = start + k;
         let q = read_particle(pf, pw, p);
-        let r = recompute(cell_width, ids, q, nf, nw);
-        write_particle(pf, pw, p, r);
-        p += 1;
+        write_particle(pf, pw, p, recompute(cell_width, &block, q, nf, nw));
+        k += 1;
     }
 }
 
 // Only the fluids are affected.
-fn recompute(cell_width: f32, ids: &[u64], q: Particle, nf: &[f32], nw: &[u32]) -> Particle
-    requires { ⌜ Holds nodeForm (store (now nf) (now nw)) (length (now ids) * regionCells) ⌝ }
-    ensures { λ r. ⌜ r ≡ recomputed «cell_width» (now (ids .entry)) (store (now (nf .entry)) (now (nw .entry))) q ⌝ }
+fn recompute(cell_width: f32, block: &[usize; 36], q: Particle, nf: &[f32], nw: &[u32]) -> Particle
+    requires { ⌜ Serves (now block) (store (now nf) (now nw)) ⌝ }
+    ensures { λ r. ⌜ r ≡ recomputedIn «cell_width» (now (block .entry)) (store (now (nf .entry)) (now (nw .entry))) q ⌝ }
 {
     if q.fluid == 0 {
         return q;
     }
-    let new_mass = gather_mass(cell_width, ids, q, nf, nw);
+    let new_mass = gather_mass(cell_width, block, q, nf, nw);
     with_volume(cell_width, new_mass, q)
 }
 
-// The mass on the nine nodes of a particle's stencil, in order.
-fn gather_mass(cell_width: f32, ids: &[u64], q: Particle, nf: &[f32], nw: &[u32]) -> f32
-    requires { ⌜ Holds nodeForm (store (now nf) (now nw)) (length (now ids) * regionCells) ⌝ }
-    ensures { λ r. ⌜ r ≡ gathered «cell_width» (now (ids .entry)) (store (now (nf .entry)) (now (nw .entry))) (positionOf q) ⌝ }
+// The mass on the nine nodes of a particle's stencil, column by column.
+fn gather_mass(cell_width: f32, block: &[usize; 36], q: Particle, nf: &[f32], nw: &[u32]) -> f32
+    requires { ⌜ Serves (now block) (store (now nf) (now nw)) ⌝ }
+    ensures { λ r. ⌜ r ≡ gatheredIn «cell_width» (now (block .entry)) (store (now (nf .entry)) (now (nw .entry))) q ⌝ }
 {
-    let dir = dir_to_associated_grid_node(cell_width, q.position);
+    let near = nearest(cell_width, q.position);
+    let dir = dir_to_associated_grid_node(cell_width, near, q.position);
     let w = numeric::dim2::precompute_weights(dir, cell_width);
-    let stencil = packing::dim2::stencil(cells::dim2::cell_associated_to_point(
-        cell_width,
-        q.position,
-    ));
+    let corner = corner_of(near);
     let mut new_mass = 0.0;
-    let mut k = 0;
-    while k < STENCIL_CELLS {
-        let n = node_of(ids, stencil[k], nf, nw);
-        new_mass = new_mass + weight(w, nbh_shift(k)) * n.mass;
-        k += 1;
+    let mut i = 0;
+    while i < STENCIL_SIDE {
+        new_mass = gather_column(block, corner, w, step(i), nf, nw, new_mass);
+        i += 1;
+    }
+    new_mass
+}
+
+// What the three nodes of a column add.
+fn gather_column(
+    block: &[usize; 36],
+    corner: usize,
+    w: [[f32; 3]; 2],
+    x: u32,
+    nf: &[f32],
+    nw: &[u32],
+    mass: f32,
+) -> f32
+    requires { ⌜ (corner < 22) × (x < 3) × Serves (now block) (store (now nf) (now nw)) ⌝ }
+    ensures { λ r. ⌜ r ≡ overColumn (store (now (nf .entry)) (now (nw .entry))) (weighing w) (now (block .entry)) corner x 3 mass ⌝ }
+{
+    let mut new_mass = mass;
+    let mut j = 0;
+    while j < STENCIL_SIDE {
+        let y = step(j);
+        let n = node_in(block, corner, x, y, nf, nw);
+        new_mass = new_mass + weight(w, Cell { x: x, y: y }) * n.mass;
+        j += 1;
     }
     new_mass
 }

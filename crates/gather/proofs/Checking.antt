@@ -10,24 +10,24 @@ use borrow.Author.Tests.{eqb-true}
 use Rattle.laws.specs.Store.{Store, store, Holds}
 use Rattle.laws.proofs.Refusals.{unless-passed}
 use Rattle.grid.specs.Answers.{refused, refuse, unless}
-use Rattle.grid.specs.Nodes.{nodeForm, regionCells}
-use Rattle.grid.specs.Table.{matches, limits, goodWidth, goodStep, called, codes, isFlag}
+use Rattle.grid.specs.Table.{matches, limits, goodWidth, goodStep, called, codes, isFlag, before}
 use Rattle.grid.specs.declared.Answer.the-variants.{Done}
 use Rattle.grid.specs.declared.Rule.the-variants.{Length}
 use Rattle.grid.proofs.Lengths.{and-split, regroup}
 use Rattle.grid.proofs.Steps.{called-then, passed}
 use Rattle.particles.specs.Particles.{particleFloats, particleWords, particleForm}
-use Rattle.particles.specs.Table.{particleLengths}
+use Rattle.particles.specs.Table.{particleLengths, Ready}
 use Rattle.particles.proofs.Staging.{staged}
 use Rattle.gather.specs.Gather.{givenFloats, givenWords, givenLengths, firstCheck, recordsCheck, secondCheck}
+use Rattle.gather.proofs.Ranging.{all-taken}
 
--- a first half that is not refused has the particles and the nodes that it builds on
-pub first-held : (h dt : Float) (modified regions : ℕ) (ids ranges : List ℕ) (count : ℕ) (s : Store) (nf : List Float) (nw : List ℕ)
-    → refused (firstCheck h dt modified regions ids ranges count s (length nf) (length nw)) ≡ false → Holds particleForm s count × Holds nodeForm (store nf nw) (length ids * regionCells)
+-- a first half that is not refused has what it builds on, and its regions have all particles
+pub first-ready : (h dt : Float) (modified regions : ℕ) (ids ranges : List ℕ) (count : ℕ) (s : Store) (nf : List Float) (nw : List ℕ)
+    → refused (firstCheck h dt modified regions ids ranges count s (length nf) (length nw)) ≡ false → Ready h ids ranges s (store nf nw) × (before ranges (length ids) ≡ count)
 unfolding firstCheck
-first-held h dt modified regions ids ranges count s nf nw e =
+first-ready h dt modified regions ids ranges count s nf nw e =
     let r = staged (goodWidth h ∷ goodStep dt ∷ []) (codes (isFlag modified ∷ [])) h regions ids ranges count s nf nw e in
-    (r .held, r .ready .nodes-held)
+    (r .ready, all-taken (r .ready) (r .held))
 
 module _ (count : ℕ) (s given : Store) where
   -- whether all lengths match, as the code asks

@@ -1,2 +1,4 @@
-pub mod Checking
+pub mod Columns
+pub mod Ranging
 pub mod Gathering
+pub mod Checking

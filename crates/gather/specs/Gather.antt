@@ -2,24 +2,25 @@
 -- Assumes nothing.
 use mathlib.Core.Path.{_≡_}
 use mathlib.Core.List.{List, [], _∷_, _++_}
-use Prim.Native.Nat.{ℕ, zero, suc, _+_, _*_, _<_}
+use Prim.Native.Nat.{ℕ, zero, suc, _+_, _*_, _<_, _≤_}
 use lib.Ieee.{Float, nan}
 use lib.ListN.{length, getD}
-use Rattle.packing.specs.Ids.{dim2, stencilOf}
+use Rattle.packing.specs.Ids.{dim2, region, stencilOf}
 use Rattle.numeric.specs.Bits.{none}
 use Rattle.laws.specs.Store.{Store, Holds}
-use Rattle.laws.specs.Hits.{run, changes}
-use Rattle.cells.specs.Cells.{cellAssociatedToPoint}
-use Rattle.cells.specs.Stencil.{stencilCells, shiftAt, dirToAssociatedGridNode}
+use Rattle.laws.specs.Hits.{Hit, run, gather, changeAt, changes}
+use Rattle.cells.specs.Cells.{cellAssociatedToPoint, regionAssociatedToPoint}
+use Rattle.cells.specs.Stencil.{stencilCells, shiftAt, stepAt, dirToAssociatedGridNode}
 use Rattle.cells.specs.declared.Found.{Found}
 use Rattle.cells.specs.declared.Found.the-variants.{At, Absent}
 use Rattle.grid.specs.Answers.{first}
-use Rattle.grid.specs.Nodes.{nodeAt, emptyNode}
+use Rattle.grid.specs.Nodes.{nodeForm, nodeAt, emptyNode, regionCells}
 use Rattle.grid.specs.Table.{lengths, limits, goodWidth, goodStep, codes, isFlag, flags, numbers}
 use Rattle.grid.specs.declared.Answer.{Answer}
 use Rattle.grid.specs.declared.Rule.the-variants.{Code, NotFinite}
 use Rattle.grid.specs.declared.grid_node.GridNode.{GridNode}
 use Rattle.particles.specs.Particles.{particleForm, particleAt, particles, positionOf}
+use Rattle.particles.specs.Blocks.{BlockIn, cornerOf, placeAt}
 use Rattle.particles.specs.Places.{nodePlace}
 use Rattle.particles.specs.Table.{particleLengths, firstParticle, stageCheck}
 use Rattle.particles.specs.declared.particle.Particle.{Particle}
@@ -55,6 +56,46 @@ module _ (h : Float) (ids : List ℕ) (nodes : Store) where
   -- what becomes of a particle
   unfoldable pub firstChange : Float → ℕ → Particle → Particle
   firstChange dt modified q = advanced (on modified) h dt (taken (positionOf q)) q
+
+-- ---- as the code goes: by the places of the block of the particle's region, column by column
+
+module _ {A : Type 0} (nodes : Store) (add : List ℕ → GridNode → A → A) (block : List ℕ) (corner : ℕ) where
+  -- on top of a: of the first n nodes of the column that lies x beyond the corner
+  unfoldable pub overColumn : ℕ → ℕ → A → A
+  overColumn x zero a = a
+  overColumn x (suc n) a = add (x ∷ stepAt n ∷ []) (nodeFound nodes (placeAt block corner x (stepAt n))) (overColumn x n a)
+
+  -- of the first n columns
+  unfoldable pub overColumns : ℕ → A → A
+  overColumns zero a = a
+  overColumns (suc n) a = overColumn (stepAt n) 3 (overColumns n a)
+
+-- what one node adds to what a particle has taken
+abbrev pub adding : Float → List Float → List ℕ → GridNode → Taken → Taken
+adding h dir shift n a = takenFrom h dir shift (nodeOf n) a
+
+unfoldable pub takenIn : Float → List ℕ → Store → Particle → Taken
+takenIn h block nodes q =
+    let dir = dirToAssociatedGridNode h (positionOf q) in
+    overColumns nodes (adding h dir) block (cornerOf h q) 3 (nothing dir)
+
+-- the places of a block are places of nodes that are there
+pub record Serves (block : List ℕ) (nodes : Store) : Type 0 where
+  pub places : BlockIn block (length (nodes .words))
+  pub held : Holds nodeForm nodes (length (nodes .words))
+
+-- what the particles of a region, from start on, may build on
+pub record Ranged (h : Float) (ids : List ℕ) (r start count : ℕ) (s nodes : Store) : Type 0 where
+  pub all : ℕ
+  pub whole : region r ≡ r
+  pub particles-held : Holds particleForm s all
+  pub nodes-held : Holds nodeForm nodes (length ids * regionCells)
+  pub within : start + count ≤ all
+  pub in-region : (p : ℕ) → start ≤ p → p < start + count → regionAssociatedToPoint dim2 h (positionOf (particleAt s p)) ≡ r
+
+-- n particles from a place on, each changed
+abbrev pub changesFrom : (Particle → Particle) → ℕ → ℕ → List (Hit Particle)
+changesFrom change start n = gather (λ (j : ℕ). changeAt (λ (p : ℕ). change) (start + j)) n
 
 -- ---- the second half
 

@@ -9,27 +9,34 @@ ghost use Rattle.numeric.specs.Axes.{zeros, zeroRows, identity, axes, rows};
 ghost use Rattle.numeric.specs.Bits.{none};
 ghost use Rattle.numeric.specs.Kernel.{precomputeWeights};
 ghost use Rattle.laws.specs.Store.{store, Holds};
+ghost use Rattle.laws.specs.Hits.{run};
 ghost use Rattle.laws.specs.Refusals.{settle};
 ghost use Rattle.grid.specs.Answers.{refused};
-ghost use Rattle.grid.specs.Nodes.{nodeForm, regionCells};
-ghost use Rattle.particles.specs.Particles.{particleForm, positionOf};
+ghost use Rattle.grid.specs.Table.{before};
+ghost use Rattle.particles.specs.Particles.{particleForm, particles};
+ghost use Rattle.particles.specs.Table.{Ready};
 ghost use Rattle.gather.specs.Transfer.{nothing, takenFrom, eroded, solidDeformed, fluidDeformed, deformed, fails, on, nodeOf, bodyOf, stateOf, takenBy, givenBy, advanced, finished};
-ghost use Rattle.gather.specs.Gather.{taken, givenFloats, givenWords, givenAt, firstHalf, secondHalf, firstCheck, secondCheck};
+ghost use Rattle.gather.specs.Gather.{overColumn, adding, takenIn, Serves, Ranged, firstChange, changesFrom, givenFloats, givenWords, givenAt, firstHalf, secondHalf, firstCheck, secondCheck};
 use crate::inner::check_first_half;
 use crate::inner::check_second_half;
-use crate::inner::node_of;
-use cells::inner::STENCIL_CELLS;
+use crate::inner::node_in;
+use cells::inner::STENCIL_SIDE;
 use cells::inner::dir_to_associated_grid_node;
 use cells::inner::dpt;
-use cells::inner::nbh_shift;
+use cells::inner::nearest;
+use cells::inner::step;
 use cells::inner::weight;
 use grid::Answer;
 use grid::grid_node::GridNode;
+use grid::inner::count_of;
+use grid::inner::start_of;
 use numeric::dim2::Matrix;
 use numeric::dim2::Point;
 use numeric::dim2::Vector;
 use numeric::inv_exact;
 use packing::dim2::Cell;
+use particles::inner::blocks::block_of;
+use particles::inner::blocks::corner_of;
 use particles::inner::read_particle;
 use particles::inner::write_particle;
 use particles::particle::Particle;
@@ -92,7 +99,7 @@ pub fn grid_to_particle_first_half(
         dt,
         modified_eigenerosion,
         ids,
-        particles,
+        ranges,
         pf,
         pw,
         nf,
@@ -101,51 +108,113 @@ pub fn grid_to_particle_first_half(
     Answer::Done
 }
 
+// Region by region, each by the places of its block.
 fn gather_particles(
     cell_width: f32,
     dt: f32,
     modified_eigenerosion: u32,
     ids: &[u64],
-    particles: usize,
+    ranges: &[u64],
     pf: &mut [f32],
     pw: &mut [u32],
     nf: &[f32],
     nw: &[u32],
 )
-    requires { ⌜ Holds particleForm (store (now pf) (now pw)) particles × Holds nodeForm (store (now nf) (now nw)) (length (now ids) * regionCells) ⌝ }
-    ensures { λ _. ⌜ store (now (pf .exit)) (now (pw .exit)) ≡ firstHalf «cell_width» dt «modified_eigenerosion» (now (ids .entry)) (store (now (nf .entry)) (now (nw .entry))) particles (store (now (pf .entry)) (now (pw .entry))) ⌝ }
+    requires { ⌜ Ready «cell_width» (now ids) (now ranges) (store (now pf) (now pw)) (store (now nf) (now nw)) ⌝ }
+    ensures { λ _. ⌜ store (now (pf .exit)) (now (pw .exit)) ≡ firstHalf «cell_width» dt «modified_eigenerosion» (now (ids .entry)) (store (now (nf .entry)) (now (nw .entry))) (before (now (ranges .entry)) (length (now (ids .entry)))) (store (now (pf .entry)) (now (pw .entry))) ⌝ }
 {
-    let mut p = 0;
-    while p < particles {
+    let mut r = 0;
+    while r < ids.len() {
+        gather_range(
+            cell_width,
+            dt,
+            modified_eigenerosion,
+            ids,
+            ids[r],
+            start_of(ranges, r),
+            count_of(ranges, r),
+            pf,
+            pw,
+            nf,
+            nw,
+        );
+        r += 1;
+    }
+}
+
+// `count` particles of a region, from `start` on.
+fn gather_range(
+    cell_width: f32,
+    dt: f32,
+    modified_eigenerosion: u32,
+    ids: &[u64],
+    region_id: u64,
+    start: usize,
+    count: usize,
+    pf: &mut [f32],
+    pw: &mut [u32],
+    nf: &[f32],
+    nw: &[u32],
+)
+    requires { ⌜ Ranged «cell_width» (now ids) «region_id» start count (store (now pf) (now pw)) (store (now nf) (now nw)) ⌝ }
+    ensures { λ _. ⌜ store (now (pf .exit)) (now (pw .exit)) ≡ run particles (changesFrom (firstChange «cell_width» (now (ids .entry)) (store (now (nf .entry)) (now (nw .entry))) dt «modified_eigenerosion») start count) (store (now (pf .entry)) (now (pw .entry))) ⌝ }
+{
+    let block = block_of(ids, region_id);
+    let mut k = 0;
+    while k < count {
+        let p = start + k;
         let q = read_particle(pf, pw, p);
-        let t = take(cell_width, ids, q, nf, nw);
+        let t = take(cell_width, &block, q, nf, nw);
         write_particle(
             pf,
             pw,
             p,
             advance(cell_width, dt, modified_eigenerosion, t, q),
         );
-        p += 1;
+        k += 1;
     }
 }
 
-// What a particle takes from the nine nodes of its stencil, in order.
-fn take(cell_width: f32, ids: &[u64], q: Particle, nf: &[f32], nw: &[u32]) -> Transfer
-    requires { ⌜ Holds nodeForm (store (now nf) (now nw)) (length (now ids) * regionCells) ⌝ }
-    ensures { λ r. ⌜ takenBy r ≡ taken «cell_width» (now (ids .entry)) (store (now (nf .entry)) (now (nw .entry))) (positionOf q) ⌝ }
+// What a particle takes from the nine nodes of its stencil, column by column.
+fn take(cell_width: f32, block: &[usize; 36], q: Particle, nf: &[f32], nw: &[u32]) -> Transfer
+    requires { ⌜ Serves (now block) (store (now nf) (now nw)) ⌝ }
+    ensures { λ r. ⌜ takenBy r ≡ takenIn «cell_width» (now (block .entry)) (store (now (nf .entry)) (now (nw .entry))) q ⌝ }
 {
-    let dir = dir_to_associated_grid_node(cell_width, q.position);
+    let near = nearest(cell_width, q.position);
+    let dir = dir_to_associated_grid_node(cell_width, near, q.position);
     let w = numeric::dim2::precompute_weights(dir, cell_width);
-    let stencil = packing::dim2::stencil(cells::dim2::cell_associated_to_point(
-        cell_width,
-        q.position,
-    ));
+    let corner = corner_of(near);
     let mut t = zero_transfer();
-    let mut k = 0;
-    while k < STENCIL_CELLS {
-        let n = node_of(ids, stencil[k], nf, nw);
-        t = add(cell_width, dir, w, nbh_shift(k), n, t);
-        k += 1;
+    let mut i = 0;
+    while i < STENCIL_SIDE {
+        t = take_column(cell_width, block, corner, dir, w, step(i), nf, nw, t);
+        i += 1;
+    }
+    t
+}
+
+// What the three nodes of a column add.
+fn take_column(
+    cell_width: f32,
+    block: &[usize; 36],
+    corner: usize,
+    dir: Vector,
+    w: [[f32; 3]; 2],
+    x: u32,
+    nf: &[f32],
+    nw: &[u32],
+    taken: Transfer,
+) -> Transfer
+    requires { ⌜ (corner < 22) × (x < 3) × (w ≡ precomputeWeights (axes dir) «cell_width») × Serves (now block) (store (now nf) (now nw)) ⌝ }
+    ensures { λ r. ⌜ takenBy r ≡ overColumn (store (now (nf .entry)) (now (nw .entry))) (adding «cell_width» (axes dir)) (now (block .entry)) corner x 3 (takenBy taken) ⌝ }
+{
+    let mut t = taken;
+    let mut j = 0;
+    while j < STENCIL_SIDE {
+        let y = step(j);
+        let n = node_in(block, corner, x, y, nf, nw);
+        t = add(cell_width, dir, w, Cell { x: x, y: y }, n, t);
+        j += 1;
     }
     t
 }

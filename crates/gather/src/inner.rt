@@ -1,16 +1,16 @@
-// What a call of each half is refused for, and the nodes that a stage gathers from. No host reaches this; `node_of` demands of its caller as many nodes as the check has shown.
+// What a call of each half is refused for, and the nodes that a stage gathers from. No host reaches this; those that read a node demand of their caller what the check has shown.
 ghost use mathlib.Core.Path.{_≡_};
 ghost use mathlib.Core.List.{[], _∷_};
-ghost use Prim.Native.Nat.{_*_, _≤_};
+ghost use Prim.Native.Nat.{_*_, _≤_, _<_};
 ghost use lib.ListN.{length};
 ghost use Rattle.laws.specs.Store.{store, Holds};
-ghost use Rattle.grid.specs.Nodes.{nodeForm, regionCells};
+ghost use Rattle.grid.specs.Nodes.{nodeForm};
 ghost use Rattle.grid.specs.Table.{isFlag, codes, matches};
+ghost use Rattle.particles.specs.Blocks.{foundAt, placeAt};
 ghost use Rattle.particles.specs.Particles.{particleFloats, particleWords};
-ghost use Rattle.gather.specs.Gather.{nodeOfCell, givenLengths, firstCheck, recordsCheck, secondCheck};
+ghost use Rattle.gather.specs.Gather.{nodeFound, Serves, givenLengths, firstCheck, recordsCheck, secondCheck};
 use crate::grid_to_particle::GIVEN_FLOATS;
 use crate::grid_to_particle::GIVEN_WORDS;
-use cells::Found;
 use grid::Answer;
 use grid::Rule;
 use grid::grid_node::GridNode;
@@ -24,20 +24,39 @@ use grid::inner::fits;
 use grid::inner::is_step;
 use grid::inner::is_width;
 use grid::inner::read_node;
+use particles::inner::blocks::BLOCK_SIDE;
 use particles::inner::checks::check_stage;
 use particles::inner::checks::first_particle;
 use particles::inner::checks::holds_particles;
-use particles::inner::node_place;
 
-// The node of a cell; an empty one where its region is not listed, which no accepted call asks for.
-pub fn node_of(ids: &[u64], cell_id: u64, nf: &[f32], nw: &[u32]) -> GridNode
-    requires { ⌜ Holds nodeForm (store (now nf) (now nw)) (length (now ids) * regionCells) ⌝ }
-    ensures { λ r. ⌜ r ≡ nodeOfCell (now (ids .entry)) (store (now (nf .entry)) (now (nw .entry))) «cell_id» ⌝ }
+// The node that lies x and y beyond the corner of a particle's stencil, by the places of its region's block.
+pub fn node_in(
+    block: &[usize; 36],
+    corner: usize,
+    x: u32,
+    y: u32,
+    nf: &[f32],
+    nw: &[u32],
+) -> GridNode
+    requires { ⌜ (corner < 22) × (x < 3) × (y < 3) × Serves (now block) (store (now nf) (now nw)) ⌝ }
+    ensures { λ r. ⌜ r ≡ nodeFound (store (now (nf .entry)) (now (nw .entry))) (placeAt (now (block .entry)) corner x y) ⌝ }
 {
-    let Found::At(k) = node_place(ids, cell_id) else {
+    node_at(
+        block[corner + (x as usize + BLOCK_SIDE * y as usize)],
+        nf,
+        nw,
+    )
+}
+
+// The node at a place of a block; an empty one where there is none, which no accepted call asks for.
+fn node_at(place: usize, nf: &[f32], nw: &[u32]) -> GridNode
+    requires { ⌜ (place ≤ length (now nw)) × Holds nodeForm (store (now nf) (now nw)) (length (now nw)) ⌝ }
+    ensures { λ r. ⌜ r ≡ nodeFound (store (now (nf .entry)) (now (nw .entry))) (foundAt place) ⌝ }
+{
+    if place == 0 {
         return empty();
-    };
-    read_node(nf, nw, k)
+    }
+    read_node(nf, nw, place - 1)
 }
 
 pub(crate) fn check_first_half(

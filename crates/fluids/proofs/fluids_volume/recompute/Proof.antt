@@ -3,16 +3,16 @@
 use mathlib.Core.Path.{_∙_}
 use borrow.Author.Needs.{needs}
 use borrow.Author.Tests.{ne-eqb}
-use Rattle.fluids.specs.Fluids.{recomputed}
+use Rattle.fluids.specs.Fluids.{recomputedIn}
 use Rattle.fluids.proofs.fluids_volume.recompute.Statement.{statement}
 use Rattle.fluids.proofs.fluids_volume.recompute.Tie as tie
 
 returns : tie.Need-returns
-unfolding recomputed
+unfolding recomputedIn
 returns c = rw (c .if1 .taken)
 
 returns-2 : tie.Need-returns-2
-unfolding recomputed
+unfolding recomputedIn
 returns-2 c = c .with-volume .ensures ∙ rw (ne-eqb _ 0 (c .before .before .if1 .left), c .before .gather-mass .ensures)
 
 pub recompute-spec : {M : Type 1} → statement M

@@ -1,0 +1,14 @@
+-- `gather::inner::node_in` meets its contract: a block's places are those of nodes.
+-- Assumes nothing.
+use borrow.Author.Needs.{needs}
+use Rattle.gather.proofs.inner.node_in.Statement.{statement}
+use Rattle.gather.proofs.inner.node_in.Tie as tie
+
+node-at-requires : tie.Need-node-at-requires
+node-at-requires c κs = let serves = c .before .before .before .pre .3 in (serves .places _, serves .held)
+
+returns : tie.Need-returns
+returns c = c .node-at .ensures
+
+pub node-in-spec : {M : Type 1} → statement M
+node-in-spec = tie.close (tie.spec (λ c. search needs) (λ c. search needs) (λ c. search needs) (λ c. search needs) (λ c. search needs) node-at-requires returns)
