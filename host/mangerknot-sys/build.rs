@@ -2,14 +2,33 @@
 
 use std::env;
 use std::path::PathBuf;
+use std::process::exit;
+
+const VARIABLE: &str = "MANGERKNOT_ARCHIVE_DIR";
 
 fn main() {
     let repository = PathBuf::from(env::var_os("CARGO_MANIFEST_DIR").expect("cargo names the package's folder")).join("../..");
-    let folder = env::var_os("MANGERKNOT_ARCHIVE_DIR").map_or(repository.join("target/staticlib"), PathBuf::from);
+    let named = env::var_os(VARIABLE).map(PathBuf::from);
+    let about = match named {
+        Some(_) => "names that folder; without it, target/staticlib of the repository is taken",
+        None => "can name another folder, where libboundary.a lies already",
+    };
+    let folder = named.unwrap_or_else(|| repository.join("target/staticlib"));
     let archive = folder.join("libboundary.a");
-    assert!(archive.is_file(), "{} is missing: `rt staticlib boundary` makes it", archive.display());
-    println!("cargo:rerun-if-env-changed=MANGERKNOT_ARCHIVE_DIR");
+    println!("cargo:rerun-if-env-changed={}", VARIABLE);
     println!("cargo:rerun-if-changed={}", archive.display());
+    if !archive.is_file() {
+        eprintln!("Mangerknot's archive is missing: {}", archive.display());
+        eprintln!("`rt staticlib boundary`, in the repository's root, proves it and writes target/staticlib/libboundary.a.");
+        eprintln!("The variable {} {}.", VARIABLE, about);
+        exit(1);
+    }
+    let target = env::var("TARGET").expect("cargo names the target");
+    if !target.starts_with("x86_64-") || !target.contains("-linux-") {
+        eprintln!("Mangerknot's archive is x86-64 code for Linux, and the target is {}.", target);
+        eprintln!("`host/run cargo ..` builds for x86-64 on Arm too, and runs that under an emulator.");
+        exit(1);
+    }
     println!("cargo:rustc-link-search=native={}", folder.display());
     println!("cargo:rustc-link-lib=static=boundary");
 }

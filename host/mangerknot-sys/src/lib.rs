@@ -332,4 +332,5 @@ extern "C" {
     ) -> Lengths;
     pub fn mk_substep(remaining_time: f32, min_dt: f32, max_substep_dt: f32, dt: f32) -> Substep;
     pub fn mk_min_dt(total: f32, max_num_substeps: u32) -> f32;
+    pub fn mk_bench(text: *const u8, text_len: usize, out: *mut u8, out_len: usize) -> usize;
 }

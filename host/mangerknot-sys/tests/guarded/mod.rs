@@ -21,6 +21,14 @@ pub fn ask(which: &Which, call: &Call) -> (Refusal, Records) {
 
 /// What a call answers, and afterwards particles and nodes. Whatever it does not write is as it was, and so is all where it is refused.
 pub fn ask_for_both(which: &Which, call: &Call) -> (Refusal, Both) {
+    let (refusal, both, is_kept) = ask_and_look(which, call);
+    assert!(is_kept, "answered {}, and not every word is as it has to be", refusal.number);
+    (refusal, both)
+}
+
+/// What a call answers, and afterwards particles and nodes; and whether whatever it does not write is as it was, and all where it is
+/// refused.
+pub fn ask_and_look(which: &Which, call: &Call) -> (Refusal, Both, bool) {
     let (wide, narrow) = ([u64::MAX, 0], [0x7f80_0001, 0xffff_ffff]);
     let lend = |words: &[u32]| Lent::of(words, narrow);
     let order: &[u64] = if let Which::Order(order) = which { order } else { &[] };
@@ -53,12 +61,14 @@ pub fn ask_for_both(which: &Which, call: &Call) -> (Refusal, Both) {
             _ => archive::answer(which, call, lists),
         }
     };
-    assert!(wide_lists.iter().all(Lent::is_kept) && given.iter().all(Lent::is_kept));
-    for (records, may_be_written) in [(&particles, which.writes_particles()), (&nodes, which.writes_nodes())] {
-        let is_kept = if may_be_written && refusal.number == 0 { Lent::guards_are_kept } else { Lent::is_kept };
-        assert!(records.iter().all(is_kept), "answered {}, and not every word is as it has to be", refusal.number);
-    }
-    (refusal, [particles, nodes].map(|[mut floats, mut words]| (floats.lent().to_vec(), words.lent().to_vec())))
+    let lists_are = wide_lists.iter().all(Lent::is_kept) && given.iter().all(Lent::is_kept);
+    let records_are =
+        [(&particles, which.writes_particles()), (&nodes, which.writes_nodes())].iter().all(|(records, written)| {
+            let is_kept = if *written && refusal.number == 0 { Lent::guards_are_kept } else { Lent::is_kept };
+            records.iter().all(is_kept)
+        });
+    let both = [particles, nodes].map(|[mut floats, mut words]| (floats.lent().to_vec(), words.lent().to_vec()));
+    (refusal, both, lists_are && records_are)
 }
 
 /// What a stage of a substep leaves. The recomputation of fluids leaves nodes as they were that have no mass.

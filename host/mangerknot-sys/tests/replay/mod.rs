@@ -1,4 +1,5 @@
-//! Replays vectors through the archive, and reads their fields.
+//! Replays vectors through the archive, and reads their fields. Every test has of this what it needs.
+#![allow(dead_code)]
 
 use std::collections::BTreeMap;
 use std::fs;
