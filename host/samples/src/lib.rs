@@ -1,9 +1,11 @@
 //! Calls of a scatter, of an update, of a gather and of a recomputation of fluids to judge by: made from a seed (`random`), written in
-//! lines and read again (`lines`), and put together to whole substeps (`substeps`); and steps whose lengths are asked for (`lengths`). The
-//! rules are document 01's (`plane`); nothing is taken from the port.
+//! lines and read again (`lines`), and put together to whole substeps (`substeps`); steps whose lengths are asked for (`lengths`); and
+//! bench listings (`listing`), good and damaged (`damage`). The rules are document 01's (`plane`); nothing is taken from the port.
 
+pub mod damage;
 pub mod lengths;
 pub mod lines;
+pub mod listing;
 pub mod plane;
 pub mod random;
 mod rng;

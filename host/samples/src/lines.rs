@@ -140,6 +140,66 @@ impl Call {
         edits.iter().for_each(|edit| edit.apply(&mut call));
         call
     }
+
+    /// A call whose lists are as long as its counts say, so that it can be written in fields, and the changes that make this one of it.
+    pub fn parted(&self) -> (Call, Vec<Edit>) {
+        let (regions, colliders) = (self.ids.len(), self.boundary.frictions.len());
+        let (particles, projections) = (self.particle_words.len() / PARTICLE_WORDS, regions * REGION_NODES * colliders);
+        let counts = [('r', regions, self.regions), ('p', particles, self.particles), ('c', colliders, self.boundary.colliders)];
+        let lengths = [
+            ('i', regions),
+            ('s', 2 * regions),
+            ('f', particles * PARTICLE_FLOATS),
+            ('w', particles * PARTICLE_WORDS),
+            ('m', regions * REGION_NODES * NODE_FLOATS),
+            ('k', regions * REGION_NODES),
+            ('n', colliders),
+            ('j', projections * PROJECTION_FLOATS),
+            ('q', projections),
+            ('g', particles * GIVEN_FLOATS),
+            ('v', particles),
+        ];
+        let (mut base, mut edits) = (self.clone(), vec![]);
+        for (letter, length) in lengths {
+            let own = entries(&mut base, letter);
+            if own.len() != length {
+                edits.push(Edit::Length(letter, own.len()));
+            }
+            let beyond = own.iter().enumerate().skip(length).filter(|(_, entry)| **entry != 0);
+            edits.extend(beyond.map(|(place, entry)| Edit::Entry(letter, place, *entry)));
+            Edit::Length(letter, length).apply(&mut base);
+        }
+        for (letter, counted, count) in counts {
+            Edit::Count(letter, counted as u64).apply(&mut base);
+            edits.extend((counted as u64 != count).then(|| Edit::Count(letter, count)));
+        }
+        (base, edits)
+    }
+}
+
+/// The entries of a list.
+pub fn entries(call: &mut Call, letter: char) -> Vec<u64> {
+    match list(call, letter) {
+        List::Wide(list) => list.clone(),
+        List::Narrow(list) => list.iter().copied().map(u64::from).collect(),
+    }
+}
+
+/// How many entries a list has.
+pub fn length(call: &mut Call, letter: char) -> usize {
+    match list(call, letter) {
+        List::Wide(list) => list.len(),
+        List::Narrow(list) => list.len(),
+    }
+}
+
+/// Takes so many entries from a place on out of a list, as many as there are.
+pub fn take_out(call: &mut Call, letter: char, place: usize, count: usize) {
+    let range = |length: usize| place.min(length)..place.saturating_add(count).min(length);
+    match list(call, letter) {
+        List::Wide(list) => drop(list.drain(range(list.len()))),
+        List::Narrow(list) => drop(list.drain(range(list.len()))),
+    }
 }
 
 impl Boundary {
@@ -277,6 +337,14 @@ fn list(call: &mut Call, letter: char) -> List<'_> {
 }
 
 impl Edit {
+    /// The letter of what is changed; all copies are of particles.
+    pub fn letter(&self) -> char {
+        match self {
+            Edit::Setting(letter, _) | Edit::Count(letter, _) | Edit::Entry(letter, ..) | Edit::Length(letter, _) => *letter,
+            Edit::Copies(_) => 'p',
+        }
+    }
+
     fn apply(&self, call: &mut Call) {
         match *self {
             Edit::Setting(letter, bits) => set(call, letter, bits),
@@ -445,6 +513,29 @@ mod tests {
         assert_eq!((edited.ids[0], edited.ranges[1], edited.particle_words[3]), (0xfff, 2, 2));
         assert_eq!((edited.particle_floats[27], edited.node_floats.len(), edited.node_words.len()), (0x8000_0000, 5, 17));
         assert_eq!((edited.particles, edited.ids.len(), edited.dt), (3, call.ids.len(), call.dt));
+    }
+
+    #[test]
+    fn a_call_is_put_together_again() {
+        let call = Style::plain(1.0, [3, 3], [2, 2], 3).sample(&mut Rng::new(1)).bounded(2, &[0.5]);
+        let damages = ["m#5 k#999 f#70 w#3 n#3", "i#9 s#1 r=7 p=18446744073709551615 c=0", "j#7 q#0 g#5 v#1 v0=2 g4=7", ""];
+        for damage in damages {
+            let edits: Vec<Edit> = damage.split_whitespace().map(|edit| edit.parse().unwrap()).collect();
+            let damaged = call.edited(&edits);
+            let (base, found) = damaged.parted();
+            assert_eq!(base.edited(&found), damaged, "{}", damage);
+            for (fields, read) in [
+                (base.bounded_fields(), Call::from_bounded_fields as fn(&[&str]) -> Call),
+                (base.gather_fields(), Call::from_gather_fields),
+            ] {
+                let read = read(&fields.iter().map(String::as_str).collect::<Vec<_>>());
+                assert_eq!(
+                    (&read.ids, &read.particle_floats, &read.node_words),
+                    (&base.ids, &base.particle_floats, &base.node_words)
+                );
+            }
+            assert!(damage.contains('#') || found.iter().all(|edit| "gv".contains(edit.letter())));
+        }
     }
 
     #[test]

@@ -96,8 +96,25 @@ fn rewriting(rng: &mut Rng) -> Option<[u32; 4]> {
     (rng.below(4) == 0).then(|| matrix.map(f32::to_bits))
 }
 
-/// So many substeps from a call on, or fewer where one is refused or leaves a particle off the grid. What is written down of each stage
-/// is number and index and, of one that is done and leaves particles, these. `stages` answers a substep's, up to one that is refused.
+/// So many substeps from a call on, or fewer where one is refused or leaves a particle off the grid. `stages` answers a substep's, up to
+/// one that is refused.
+pub fn chain(call: &Call, recomputes: bool, seed: u64, count: usize, mut stages: impl FnMut(&Substep) -> Vec<Answer>) {
+    let mut rng = Rng::new(seed);
+    let mut next = Some(call.clone());
+    for _ in 0..count {
+        let call = match next {
+            Some(call) => call,
+            None => return,
+        };
+        let substep = Substep::of(call, recomputes, &mut rng);
+        next = match stages(&substep).last() {
+            Some(Ok(particles)) => sorted_again(&substep.call.with_particles(particles), &mut rng),
+            _ => None,
+        };
+    }
+}
+
+/// Such a chain, written down: of each stage number and index and, of one that is done and leaves particles, these.
 pub fn run(
     call: &Call,
     recomputes: bool,
@@ -105,27 +122,17 @@ pub fn run(
     count: usize,
     mut stages: impl FnMut(&Substep) -> Vec<Answer>,
 ) -> Vec<String> {
-    let mut rng = Rng::new(seed);
     let mut fields = vec![];
-    let mut next = Some(call.clone());
-    for _ in 0..count {
-        let call = match next {
-            Some(call) => call,
-            None => return fields,
-        };
-        let substep = Substep::of(call, recomputes, &mut rng);
-        let answers = stages(&substep);
+    chain(call, recomputes, seed, count, |substep| {
+        let answers = stages(substep);
         for (stage, answer) in substep.stages().iter().zip(&answers) {
             let (number, index) = answer.as_ref().err().copied().unwrap_or_default();
             fields.extend([number.to_string(), index.to_string()]);
             let particles = answer.iter().filter(|_| stage.leaves_particles());
             fields.extend(particles.flat_map(|(floats, words)| folded(&substep.call.particles_answered((floats, words)))));
         }
-        next = match answers.last() {
-            Some(Ok(particles)) => sorted_again(&substep.call.with_particles(particles), &mut rng),
-            _ => None,
-        };
-    }
+        answers
+    });
     fields
 }
 
