@@ -16,7 +16,12 @@ mod stand_ins;
 #[cfg(feature = "dim2")]
 pub mod colliders;
 #[cfg(feature = "dim2")]
+#[path = "../full/mangerknot_vectors.rs"]
+pub mod full;
+#[cfg(feature = "dim2")]
 mod given;
+#[cfg(feature = "dim2")]
+mod glue;
 #[cfg(feature = "dim2")]
 pub mod lengths;
 pub mod math;

@@ -1,9 +1,9 @@
 //! For `parry::math` and the parts of nalgebra behind it: vectors, points and matrices, each operation of every component by
 //! itself and once rounded, sums of products from left to right.
 
-use std::ops::{Add, AddAssign, Div, Index, Mul, Neg, Sub, SubAssign};
 #[cfg(feature = "dim2")]
-use std::ops::{Deref, IndexMut};
+use std::ops::IndexMut;
+use std::ops::{Add, AddAssign, Deref, Div, Index, Mul, Neg, Sub, SubAssign};
 
 pub type Kernel = crate::kernel::QuadraticKernel;
 pub type Real = f32;
@@ -28,9 +28,6 @@ pub struct Vector<T> {
     #[cfg(feature = "dim3")]
     pub z: T,
 }
-
-/// Nothing built here can tell a point from a vector, so one struct is both.
-pub type Point<T> = Vector<T>;
 
 impl<T> Vector<T> {
     pub fn map<R>(self, mut f: impl FnMut(T) -> R) -> Vector<R> {
@@ -217,14 +214,6 @@ impl Div<Real> for Vector<Real> {
     }
 }
 
-impl Div<Real> for &Vector<Real> {
-    type Output = Vector<Real>;
-
-    fn div(self, divisor: Real) -> Vector<Real> {
-        *self / divisor
-    }
-}
-
 impl Neg for Vector<Real> {
     type Output = Self;
 
@@ -258,6 +247,88 @@ impl Sub for Vector<Real> {
 impl SubAssign for Vector<Real> {
     fn sub_assign(&mut self, other: Self) {
         *self = *self - other;
+    }
+}
+
+// Points.
+
+/// The vector from the origin to it, by which all is computed. It is a type of its own, so that what is built here keeps points and vectors
+/// apart as nalgebra does.
+#[derive(Copy, Clone, Debug, Default, PartialEq)]
+pub struct Point<T> {
+    pub coords: Vector<T>,
+}
+
+impl<T> Point<T> {
+    pub fn map<R>(self, f: impl FnMut(T) -> R) -> Point<R> {
+        Point { coords: self.coords.map(f) }
+    }
+
+    pub fn cast<R>(self) -> Point<R>
+    where
+        T: Cast<R>,
+    {
+        Point { coords: self.coords.cast() }
+    }
+}
+
+impl<T> Deref for Point<T> {
+    type Target = Vector<T>;
+
+    fn deref(&self) -> &Vector<T> {
+        &self.coords
+    }
+}
+
+impl<T> From<[T; DIM]> for Point<T> {
+    fn from(parts: [T; DIM]) -> Self {
+        Point { coords: Vector::from(parts) }
+    }
+}
+
+impl Mul<Real> for Point<Real> {
+    type Output = Self;
+
+    fn mul(self, factor: Real) -> Self {
+        Point { coords: self.coords * factor }
+    }
+}
+
+impl Div<Real> for Point<Real> {
+    type Output = Self;
+
+    fn div(self, divisor: Real) -> Self {
+        Point { coords: self.coords / divisor }
+    }
+}
+
+impl Div<Real> for &Point<Real> {
+    type Output = Point<Real>;
+
+    fn div(self, divisor: Real) -> Point<Real> {
+        *self / divisor
+    }
+}
+
+impl Sub for Point<Real> {
+    type Output = Vector<Real>;
+
+    fn sub(self, other: Self) -> Vector<Real> {
+        self.coords - other.coords
+    }
+}
+
+impl Sub<Vector<Real>> for Point<Real> {
+    type Output = Self;
+
+    fn sub(self, way: Vector<Real>) -> Self {
+        Point { coords: self.coords - way }
+    }
+}
+
+impl AddAssign<Vector<Real>> for Point<Real> {
+    fn add_assign(&mut self, way: Vector<Real>) {
+        self.coords += way;
     }
 }
 
@@ -310,6 +381,11 @@ impl<const R: usize, const C: usize> SMatrix<Real, R, C> {
 }
 
 impl SMatrix<Real, 2, 2> {
+    /// By rows.
+    pub fn new(m11: Real, m12: Real, m21: Real, m22: Real) -> Self {
+        SMatrix([[m11, m12], [m21, m22]])
+    }
+
     pub fn determinant(&self) -> Real {
         let [[a, b], [c, d]] = self.0;
         a * d - b * c

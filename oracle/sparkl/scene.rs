@@ -2,14 +2,16 @@
 //! Rust would find out by sorting (regions, their particles, the particles' order) is set from the port's lists, and so is what shapes and
 //! models would answer.
 
-use crate::colliders::{Collider, ColliderSet};
-use crate::dynamics::solver::{BoundaryHandling, DamageModel, MlsSolver, MpmHooks, RigidWorld, SimulationDofs, SolverParameters};
+use super::given::{self, Between, Host, Numbers};
+use super::glue::{self, Memory};
+use crate::dynamics::solver::{BoundaryHandling, DamageModel, MlsSolver, RigidWorld, SimulationDofs};
+#[cfg(feature = "stand-ins")]
+use crate::dynamics::solver::{MpmHooks, SolverParameters};
 use crate::dynamics::{GridNode, GridNodeFlags, Particle, ParticleModelHandle, ParticleModelSet, ParticleSet};
 use crate::geometry::{way_in, SpGrid};
-use crate::given::{self, Between, Host, Numbers};
-use crate::math::{Matrix, Real, SMatrix, Vector};
-use crate::query::PointProjection;
-use crate::MmapMut;
+use crate::math::{Matrix, Point, Real, Vector};
+use rapier::geometry::ColliderSet;
+#[cfg(feature = "stand-ins")]
 use samples::lengths::Step;
 use samples::particle::*;
 use samples::substeps::Substep;
@@ -45,12 +47,13 @@ type Handles = [ParticleModelHandle; 2];
 
 impl Scene {
     /// The scene of a call that no rule refuses, its nodes in this memory.
-    pub fn new(call: &Call, memory: MmapMut) -> Self {
+    pub fn new(call: &Call, memory: Memory) -> Self {
         let grid = way_in::over(call.cell_width, memory);
         let records: Vec<Record> = records(call).collect();
         let numbers = Arc::new(numbers(call, &records));
         let mut models = ParticleModelSet::new();
         let handles = [false, true].map(|is_fluid| models.insert(given::model(is_fluid, &numbers)));
+        let colliders = colliders(call, &grid);
         let mut particles = ParticleSet::new();
         particles.set_particles(all_made(&records, &grid, handles));
         particles.regions = regions(call);
@@ -68,9 +71,9 @@ impl Scene {
             numbers,
             between: None,
             damage_model: if call.gather.eigenerosion == 0 { DamageModel::None } else { DamageModel::ModifiedEigenerosion },
-            colliders: colliders(&call.boundary),
+            colliders,
             boundary_handling: boundary_handling(call.boundary.handling),
-            simulation_dofs: SimulationDofs::from_bits_unchecked(call.boundary.locks),
+            simulation_dofs: simulation_dofs(call.boundary.locks),
         };
         scene.set_nodes(call);
         scene
@@ -78,7 +81,7 @@ impl Scene {
 
     /// The particles that the first half of gather leaves to the second.
     pub fn first_half(call: &Call) -> Records {
-        let mut scene = Scene::new(call, MmapMut::sparse());
+        let mut scene = Scene::new(call, glue::memory(&call.ids));
         scene.host(&vec![None; scene.records.len()]);
         scene.gather();
         scene.left()
@@ -93,14 +96,14 @@ impl Scene {
 
     /// The particles and the nodes that a recomputation of fluids' volumes leaves.
     pub fn recomputed(call: &Call) -> [Records; 2] {
-        let mut scene = Scene::new(call, MmapMut::sparse());
+        let mut scene = Scene::new(call, glue::memory(&call.ids));
         scene.recompute_fluids();
         [scene.particles(), scene.nodes()]
     }
 
     /// A whole substep, whose gather is one call with the host in its midst: what each of the substep's stages leaves, nodes or particles.
     pub fn substep(substep: &Substep) -> Vec<Records> {
-        let mut scene = Scene::new(&substep.call, MmapMut::sparse());
+        let mut scene = Scene::new(&substep.call, glue::memory(&substep.call.ids));
         let mut found = vec![];
         scene.clear();
         if substep.recomputes {
@@ -131,7 +134,7 @@ impl Scene {
             gather: call.gather.clone(),
             ..Call::on(vec![0])
         };
-        let mut scene = Scene::new(&at_one_place, MmapMut::sparse());
+        let mut scene = Scene::new(&at_one_place, glue::memory(&at_one_place.ids));
         scene.records = records(call).collect();
         let replaced = all_made(&scene.records, &scene.grid, scene.handles);
         scene.let_in(Host::Replaces(replaced));
@@ -181,6 +184,7 @@ impl Scene {
     }
 
     /// A step of the Rust's, which sorts the particles by itself before each of its substeps, and recomputes fluids' volumes or not.
+    #[cfg(feature = "stand-ins")]
     pub fn step(&mut self, step: &Step, recomputes: bool, hooks: &mut dyn MpmHooks) -> Real {
         let Scene { gravity, grid, particles, models, damage_model, boundary_handling, simulation_dofs, .. } = self;
         let params = SolverParameters {
@@ -195,7 +199,7 @@ impl Scene {
             simulation_dofs: *simulation_dofs,
         };
         let rigid_world = RigidWorld { colliders: &self.colliders };
-        let mut grid_phase = way_in::over(grid.cell_width(), MmapMut::sparse());
+        let mut grid_phase = way_in::over(grid.cell_width(), glue::memory(&self.ids));
         MlsSolver::step(&params, gravity, &rigid_world, grid, &mut grid_phase, particles, models, hooks)
     }
 
@@ -205,7 +209,7 @@ impl Scene {
     }
 
     /// The particles as the first half left them to the host.
-    fn left(&self) -> Records {
+    pub fn left(&self) -> Records {
         let left = self.between.as_ref().expect("a host").left();
         together(left.iter().zip(&self.records).map(|(particle, record)| record.after(particle)))
     }
@@ -287,17 +291,15 @@ fn node_word(node: &GridNode, before: u32) -> u32 {
 }
 
 /// Every collider with its own of the projections, which the port has in the order of regions, cells and colliders.
-fn colliders(boundary: &Boundary) -> ColliderSet {
-    let points =
-        boundary.points.chunks_exact(PROJECTION_FLOATS).map(|point| Vector::from([point[0], point[1]].map(Real::from_bits)));
-    let projections: Vec<PointProjection> =
-        points.zip(&boundary.insides).map(|(point, inside)| PointProjection::new(*inside != 0, point)).collect();
-    let mut set = ColliderSet::new();
-    for (place, friction) in boundary.frictions.iter().enumerate() {
-        let own = projections.iter().skip(place).step_by(boundary.frictions.len()).copied().collect();
-        set.insert(Collider::new(Real::from_bits(*friction), own));
-    }
-    set
+fn colliders(call: &Call, grid: &SpGrid<GridNode>) -> ColliderSet {
+    let Boundary { frictions, points, insides, .. } = &call.boundary;
+    let points = points.chunks_exact(PROJECTION_FLOATS).map(|point| Point::from([point[0], point[1]].map(Real::from_bits)));
+    let projections: Vec<(bool, Point<Real>)> = points.zip(insides).map(|(point, inside)| (*inside != 0, point)).collect();
+    let own = |place: usize| projections.iter().skip(place).step_by(frictions.len()).copied().collect();
+    let asked: &[u64] = if frictions.is_empty() { &[] } else { &call.ids };
+    let centres: Vec<Point<Real>> = asked.iter().flat_map(|region| cells(*region)).map(|cell| grid.cell_center(cell)).collect();
+    let frictions: Vec<Real> = frictions.iter().map(|friction| Real::from_bits(*friction)).collect();
+    glue::colliders(&frictions, &centres, &(0..frictions.len()).map(own).collect::<Vec<_>>())
 }
 
 fn boundary_handling(code: u32) -> BoundaryHandling {
@@ -308,6 +310,13 @@ fn boundary_handling(code: u32) -> BoundaryHandling {
         samples::FRICTION_Z_UP => BoundaryHandling::FrictionZUp,
         _ => panic!("no boundary handling {}", code),
     }
+}
+
+fn simulation_dofs(locks: u32) -> SimulationDofs {
+    let mut dofs = SimulationDofs::empty();
+    dofs.set(SimulationDofs::LOCK_X, locks & 1 != 0);
+    dofs.set(SimulationDofs::LOCK_Y, locks & 2 != 0);
+    dofs
 }
 
 fn regions(call: &Call) -> Vec<(u64, Range<usize>)> {
@@ -371,7 +380,7 @@ impl Record {
     /// The Rust's particle, with the fields that the record has; the others are as a new particle has them.
     fn made(&self, place: usize, grid: &SpGrid<GridNode>, handles: Handles) -> Particle {
         let Record { floats, words } = self;
-        let position = self.pair(POSITION);
+        let position = Point::from([floats[POSITION], floats[POSITION + 1]]);
         Particle {
             velocity: self.pair(VELOCITY),
             velocity_gradient: by_rows(&floats[GRADIENT..]),
@@ -399,11 +408,12 @@ impl Record {
         let Particle { position, velocity, velocity_gradient, deformation_gradient, .. } = particle;
         let kinematic = particle.kinematic_vel.unwrap_or_else(|| self.pair(KINEMATIC_VELOCITY));
         let mut floats = [0.0; PARTICLE_FLOATS];
-        for (place, pair) in [(POSITION, position), (VELOCITY, velocity), (KINEMATIC_VELOCITY, &kinematic)] {
+        floats[POSITION..][..2].copy_from_slice(&[position.x, position.y]);
+        for (place, pair) in [(VELOCITY, velocity), (KINEMATIC_VELOCITY, &kinematic)] {
             floats[place..][..2].copy_from_slice(&[pair.x, pair.y]);
         }
         for (place, matrix) in [(GRADIENT, velocity_gradient), (DEFORMATION, deformation_gradient)] {
-            floats[place..][..4].copy_from_slice(&matrix.0.concat());
+            floats[place..][..4].copy_from_slice(&[(0, 0), (0, 1), (1, 0), (1, 1)].map(|at| matrix[at]));
         }
         floats[STRESS..][..4].copy_from_slice(&self.floats[STRESS..][..4]);
         floats[MASS] = particle.mass;
@@ -425,5 +435,5 @@ impl Record {
 
 /// The matrix whose rows begin here.
 fn by_rows(floats: &[Real]) -> Matrix<Real> {
-    SMatrix([[floats[0], floats[1]], [floats[2], floats[3]]])
+    Matrix::new(floats[0], floats[1], floats[2], floats[3])
 }

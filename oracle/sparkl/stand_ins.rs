@@ -49,6 +49,10 @@ macro_rules! flags {
                 $name { bits }
             }
 
+            pub fn empty() -> Self {
+                $name { bits: 0 }
+            }
+
             pub fn contains(&self, other: Self) -> bool {
                 self.bits & other.bits == other.bits
             }

@@ -2,18 +2,12 @@
 //! is refused for behind its lines is `reading`'s, and the nodes are the handed-over Rust's.
 
 use crate::reading::{self, Refusal, Which};
-use samples::particle::{FAILED, PSI};
+use samples::listing::{LISTED_FLOATS, MOST_PARTICLES, MOST_REGIONS};
+use samples::particle::FAILED;
 use samples::{canonical, Call, NODE_FLOATS, PARTICLE_FLOATS, PARTICLE_WORDS, REGION_NODES, VELOCITY};
 use sparkl2d::geometry::way_in::unpack;
 use sparkl2d::scene::Scene;
 use sparkl2d::MmapMut;
-
-/// The program's own limits, which are below those of a call.
-pub const MOST_REGIONS: usize = 64;
-pub const MOST_PARTICLES: usize = 256;
-
-/// The floats of a `p` line: those of the record up to psi.
-pub const LISTED_FLOATS: usize = PSI + 1;
 
 /// What the program prints.
 pub fn printed(text: &[u8]) -> String {

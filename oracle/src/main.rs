@@ -1,11 +1,6 @@
 //! Asks the handed-over Rust and writes its answers down (`write`), or holds the answers written down against it (`check`).
 
-mod listing;
-mod reading;
-mod rng;
-mod sha256;
-mod vectors;
-
+use oracle::vectors;
 use std::path::{Path, PathBuf};
 use std::process::ExitCode;
 use std::{env, fs, io};

@@ -1,389 +1,434 @@
-//! Random calls that no rule refuses, whole substeps, and the lengths of steps, through the archive and through the handed-over Rust.
+//! Random and adversarial calls of every function of the archive, whole substeps in chains, and what has to be answered: what is refused is
+//! `reading`'s, all else the handed-over Rust's, or Rust's own.
 
-use crate::archive::{self, Which};
-use mangerknot_sys::{mk_min_dt, mk_substep, Lengths, Refusal};
-use samples::lengths::{Step, Taken};
-use samples::random::{bounded, gathered, order, Style};
-use samples::substeps::{self, Answer, Stage, Substep};
-use samples::{Call, Records, Rng, NODE_FLOATS, PARTICLE_FLOATS};
-use sparkl2d::lengths::{random_course, Course};
-use sparkl2d::scene::Scene;
-use sparkl2d::MmapMut;
+mod damage;
+mod leaves;
+mod shrink;
+mod stages;
+mod table;
 
-/// How many substeps in a row are made of each call, if none is refused and no particle leaves the grid; once without a recomputation of
-/// fluids' volumes and once with it.
+use damage::Faults;
+use leaves::Leaf;
+use oracle::vectors::gather::stages as rusts_stages;
+use samples::lines::Edit;
+use samples::random::{bounded, gathered, Numbers, Style};
+use samples::substeps::{self, Answer, Stage};
+use samples::{Call, Rng, NODE_FLOATS, PARTICLE_FLOATS, PARTICLE_WORDS};
+use stages::{Asked, Kind, Left, KINDS};
+use table::Table;
+
+/// What a round has: each function of numbers so often, and once where it is given none; so many steps that no rule refuses; so many calls of
+/// the stages, and of each and by each function so many that are damaged.
+const OF_NUMBERS: usize = 3;
+const STEPS: usize = 6;
+const CALLS: usize = 8;
+const DAMAGED: usize = 4;
+
+/// How many substeps are made in a row, if none is refused and no particle leaves the grid.
 const SUBSTEPS: usize = 3;
+const MANY_SUBSTEPS: usize = 20;
 
-/// How many steps' lengths are compared beside each call, and how many proposals a step has at the most.
-const STEPS: usize = 10;
-const PROPOSALS: u64 = 40;
+/// A round in so many has calls at the limits, which are large.
+const ROUNDS_TO_LIMITS: u64 = 200;
 
-/// Compares so many calls in each of eight ways, substeps from each, and steps beside them; says whether nothing differs.
+/// Compares rounds of calls until there are so many, and says whether nothing differs and nothing was left out. A round covers all
+/// functions.
 pub fn run(seed: u64, count: u64) -> bool {
-    println!("machine: {}", crate::machine());
-    println!("seed: {}", seed);
-    let mut rng = Rng::new(seed);
-    let mut tally = Tally::default();
-    for place in 0..count {
-        let call = Style::any(&mut rng).sample(&mut rng);
-        let region = rng.below(call.regions) as usize;
-        let order = order(&call, &mut rng);
+    let mut judge = Judge::new(Box::new(Asked::ports));
+    for round in 0.. {
+        judge.round(seed, round);
+        if judge.table.calls >= count {
+            break;
+        }
+    }
+    println!("{}", judge.table.told(seed, &crate::machine()));
+    judge.table.differ == 0 && judge.table.left_out().is_empty()
+}
+
+/// Asks a call again that was told as the smallest; says whether nothing differs, or nothing where it cannot be read.
+pub fn replay(told: &str) -> Option<bool> {
+    let asked = Asked::read(told.lines())?;
+    let (left, right) = (asked.ports(), asked.judged());
+    let difference = asked.difference(&left, &right);
+    println!("{} answers {:?}, {}", asked.kind.name(), left.refusal, difference.as_deref().unwrap_or("and nothing differs"));
+    Some(difference.is_none())
+}
+
+/// What is asked, who answers of the stages, and what came of it.
+struct Judge {
+    leaves: Vec<Leaf>,
+    ports: Box<dyn Fn(&Asked) -> Left>,
+    table: Table,
+    /// What is said of the first difference.
+    first: Option<String>,
+}
+
+impl Judge {
+    fn new(ports: Box<dyn Fn(&Asked) -> Left>) -> Judge {
+        Judge { leaves: leaves::all(), ports, table: Table::default(), first: None }
+    }
+
+    /// A round by itself, so that it can be had again without those before it.
+    fn round(&mut self, seed: u64, round: u64) {
+        let mut rng = Rng::new(Rng::new(seed).number() ^ Rng::new(round).number());
+        for place in 0..self.leaves.len() {
+            for _ in 0..if self.leaves[place].is_constant() { 1 } else { OF_NUMBERS } {
+                let asked = (self.leaves[place].make)(&mut rng);
+                let right = self.leaves[place].judged(&asked);
+                self.take_numbers(place, asked, right);
+            }
+        }
+        (0..STEPS).for_each(|_| self.take_step(&mut rng));
+        (0..CALLS).for_each(|_| self.take_call(&mut rng));
+        for recomputes in [false, true] {
+            let (call, count) = beginning(&mut rng);
+            self.take_chain(&call, recomputes, rng.number(), count);
+        }
+        if round % ROUNDS_TO_LIMITS == 1 {
+            self.take_limits(&mut rng);
+        }
+    }
+
+    /// A function of numbers.
+    fn take_numbers(&mut self, place: usize, asked: Vec<u64>, right: Vec<u64>) {
+        let leaf = &self.leaves[place];
+        self.table.count(leaf.name, leaf.number(&right));
+        self.table.listed += u64::from(leaf.is_listed(&asked));
+        let answer = (leaf.port)(&asked);
+        if answer != right {
+            self.table.differ += 1;
+            self.first.get_or_insert_with(|| said(told_numbers(leaf, asked, [answer, right])));
+        }
+    }
+
+    /// A step of the Rust's, and each of its substeps by itself.
+    fn take_step(&mut self, rng: &mut Rng) {
+        let step = leaves::good_step(rng);
+        let place = |name: &str| self.leaves.iter().position(|leaf| leaf.name == name).expect("a function");
+        let (whole, single) = (place("mk_step_lengths"), place("mk_substep"));
+        let asked = leaves::numbers(&step);
+        let right = self.leaves[whole].judged(&asked);
+        self.take_numbers(whole, asked, right);
+        for (given, became) in leaves::substeps_of(&step) {
+            self.take_numbers(single, given, became);
+        }
+    }
+
+    /// A call that no rule refuses by every function, and damaged ones.
+    fn take_call(&mut self, rng: &mut Rng) {
+        let call = Style::any(rng).sample(rng);
         let colliders = rng.one_of(&[0, 1, 1, 2, 4, 16]);
-        let call = gathered(bounded(call, colliders, &mut rng), &mut rng);
-        let scatters = [Which::All, Which::Region(region), Which::Order(&order)];
-        let others = [Which::Update, Which::Sequence, Which::FirstHalf, Which::SecondHalf, Which::Fluids];
-        for which in scatters.iter().chain(&others) {
-            tally.take(which, &call, place);
+        let call = gathered(bounded(call, colliders, rng), rng);
+        let faults = Faults::of(&call);
+        for kind in KINDS {
+            self.take(Asked::any(kind, &call, rng));
+            (0..DAMAGED).for_each(|_| self.take(faults.damaged(kind, &call, rng)));
         }
-        tally.take_substeps(&call, false, rng.number(), place);
-        tally.take_substeps(&call, true, rng.number(), place);
-        (0..STEPS).for_each(|_| tally.take_step(&Step::any(&mut rng), &mut rng));
-    }
-    println!(
-        "calls: {}, each of a scatter of all regions, of one and in an order, of an update, of the sequence, of a gather's halves, of fluids",
-        count
-    );
-    println!(
-        "substeps: {} in a row from each without fluids and with them, {} in all, {} of them refused",
-        SUBSTEPS, tally.substeps, tally.refused
-    );
-    println!("steps: {}, of {} substeps in all; ends: {:?}", tally.steps, tally.taken, tally.ends);
-    println!("differ: {}", tally.differ);
-    println!("nodes hit or moved: {}, of which {} have a NaN or an infinity", tally.nodes.written, tally.nodes.strange);
-    println!("particles moved: {}, of which {} have a NaN or an infinity", tally.particles.written, tally.particles.strange);
-    tally.differ == 0
-}
-
-#[derive(Default)]
-struct Tally {
-    differ: u64,
-    substeps: u64,
-    refused: u64,
-    steps: u64,
-    /// The substeps that steps took, and how often a step came to each end.
-    taken: u64,
-    ends: [u64; 3],
-    nodes: Written,
-    particles: Written,
-}
-
-/// How many records were written, and how many of them have a float that is not finite.
-#[derive(Default)]
-struct Written {
-    written: u64,
-    strange: u64,
-}
-
-impl Written {
-    /// What is told by one letter was not written, or has lost its mass alone.
-    fn take(&mut self, records: &[String], floats: usize) {
-        let written = records.iter().filter(|record| record.len() > 1);
-        self.written += written.clone().count() as u64;
-        self.strange += written.filter(|record| is_strange(record, floats)).count() as u64;
-    }
-}
-
-/// What a call leaves, record by record, or its number and index.
-type Left = Result<Vec<String>, (u32, usize)>;
-
-impl Tally {
-    fn take(&mut self, which: &Which, call: &Call, place: u64) {
-        let (port, rust) = (ports(which, call), rusts(which, call));
-        let fields = || if which.writes_particles() { call.gather_fields() } else { call.bounded_fields() };
-        self.hold(&port, &Ok(rust), which.writes_particles(), || format!("call {}: {}", place, fields().join("\t")));
     }
 
-    fn take_substeps(&mut self, call: &Call, recomputes: bool, seed: u64, place: u64) {
-        substeps::run(call, recomputes, seed, SUBSTEPS, |substep| {
-            let (port, rust) = (substep.in_turn(ports_stage), rusts_substep(substep));
-            self.substeps += 1;
-            self.refused += u64::from(rust.iter().any(Result::is_err));
-            let say = |stage: usize| {
-                format!("stage {} of substeps of {} from call {}: {}", stage, seed, place, call.fields().join("\t"))
-            };
-            let stages = substep.stages();
-            let lefts = |answers: &[Answer]| -> Vec<Left> {
-                stages.iter().zip(answers).map(|(stage, answer)| left(substep, *stage, answer)).collect()
-            };
-            let (port, lefts) = (lefts(&port), lefts(&rust));
-            self.differ += u64::from(port.len() != lefts.len());
-            for (place, (port, rust)) in port.iter().zip(&lefts).enumerate() {
-                self.hold(port, rust, stages[place].leaves_particles(), || say(place));
-            }
-            rust
+    /// As many particles, regions and colliders as there may be, and one more.
+    fn take_limits(&mut self, rng: &mut Rng) {
+        let one = gathered(bounded(Style::plain(0.5, [9, 9], [1, 1], 1).sample(rng), 1, rng), rng);
+        let mut calls: Vec<Call> = [65_536, 65_537].map(|count| one.edited(&[Edit::Copies(count)])).to_vec();
+        for regions in [512, 513] {
+            let mut ids = one.ids.clone();
+            ids.extend((0..).map(|place| (1 << 20 | place) << 12).take(regions - one.ids.len()));
+            calls.push(gathered(bounded(one.on_list(&ids), 1, rng), rng));
+        }
+        calls.extend([16, 17].map(|colliders| bounded(one.clone(), colliders, rng)));
+        for call in calls {
+            KINDS.iter().for_each(|kind| self.take(Asked::any(*kind, &call, rng)));
+        }
+    }
+
+    /// A call of a stage.
+    fn take(&mut self, asked: Asked) {
+        let right = asked.judged();
+        self.table.listed += u64::from(asked.is_listed());
+        self.hold(asked, &right);
+    }
+
+    /// Holds what the archive leaves against what has to be left.
+    fn hold(&mut self, asked: Asked, right: &Left) -> Left {
+        let left = (self.ports)(&asked);
+        self.table.count(asked.kind.name(), right.refusal.0);
+        if right.refusal.0 == 0 {
+            let call = &asked.call;
+            self.table.particles.take(
+                (&call.particle_floats, &call.particle_words),
+                &right.particles,
+                PARTICLE_FLOATS,
+                PARTICLE_WORDS,
+            );
+            self.table.nodes.take((&call.node_floats, &call.node_words), &right.nodes, NODE_FLOATS, 1);
+        }
+        if let Some(difference) = asked.difference(&left, right) {
+            self.table.differ += 1;
+            let ports = &self.ports;
+            self.first.get_or_insert_with(|| said(told_call(ports, asked, difference)));
+        }
+        left
+    }
+
+    /// Substeps in a row, whose gather is one call in the Rust.
+    fn take_chain(&mut self, call: &Call, recomputes: bool, seed: u64, count: usize) {
+        let mut length = 0;
+        substeps::chain(call, recomputes, seed, count, |substep| {
+            let answers = rusts_stages(substep);
+            let mut right = answers.iter();
+            substep.in_turn(|stage, call| self.take_stage(stage, call, right.next()));
+            length += 1;
+            answers
         });
+        self.table.chains += 1;
+        self.table.substeps += length;
+        self.table.longest = self.table.longest.max(length);
     }
 
-    /// A step of these settings, whose proposals are what a host of the Rust's says at random.
-    fn take_step(&mut self, settings: &Step, rng: &mut Rng) {
-        let course = random_course(settings, 1 + rng.below(PROPOSALS) as usize, rng);
-        let step = settings.with(&course.proposals);
-        let taken = course.taken(&step);
-        self.steps += 1;
-        self.taken += taken.count as u64;
-        self.ends[taken.end as usize] += 1;
-        if !ports_step_is(&step, &course, &taken) {
-            self.differ += 1;
-            if self.differ == 1 {
-                println!("differs: {:?} of {:?}, the Rust's course {:?}", archive::lengths(&step, &step.dts), step, course);
-            }
-        }
-    }
-
-    /// Holds what the port leaves against what the Rust does; the first difference is said.
-    fn hold(&mut self, port: &Left, rust: &Left, are_particles: bool, what: impl FnOnce() -> String) {
-        if port != rust {
-            self.differ += 1;
-            if self.differ == 1 {
-                println!("differs: {}", what());
-                say_difference(port, rust);
-            }
-        }
-        let records = rust.as_deref().unwrap_or_default();
-        match are_particles {
-            true => self.particles.take(records, PARTICLE_FLOATS),
-            false => self.nodes.take(records, NODE_FLOATS),
+    /// A stage of such a substep, which is given what the archive left in the one before; nothing more is asked where the Rust went no
+    /// further.
+    fn take_stage(&mut self, stage: Stage, call: &Call, answer: Option<&Answer>) -> Answer {
+        let answer = answer.ok_or((0, 0))?;
+        let asked = Asked::new(Kind::from(stage), call.clone());
+        let right = match asked.is_listed() {
+            true => asked.judged(),
+            false => asked.answered(answer, stage.leaves_particles()),
+        };
+        self.table.listed += u64::from(asked.is_listed());
+        let left = self.hold(asked, &right);
+        match left.refusal {
+            (0, _) if stage.leaves_particles() => Ok(left.particles),
+            (0, _) => Ok(left.nodes),
+            refusal => Err(refusal),
         }
     }
 }
 
-/// Whether one of a record's floats has an infinity's or a NaN's exponent.
-fn is_strange(record: &str, floats: usize) -> bool {
-    let words = (0..floats).map(|place| u32::from_str_radix(&record[8 * place..8 * place + 8], 16).expect("8 hex digits"));
-    words.into_iter().any(|bits| !f32::from_bits(bits).is_finite())
-}
-
-/// What the archive leaves; what a call does not write is as it was, bit for bit.
-fn ports(which: &Which, call: &Call) -> Left {
-    let mut after = call.clone();
-    let Refusal { number, index } = archive::answer_in_place(which, &mut after);
-    let nodes_are_kept = (&after.node_floats, &after.node_words) == (&call.node_floats, &call.node_words);
-    let particles_are_kept = (&after.particle_floats, &after.particle_words) == (&call.particle_floats, &call.particle_words);
-    assert!(nodes_are_kept || which.writes_nodes(), "written beside what it may write");
-    assert!(particles_are_kept || which.writes_particles(), "written beside what it may write");
-    match number {
-        0 if matches!(which, Which::Fluids) => {
-            let [particles, nodes] = [(after.particle_floats, after.particle_words), (after.node_floats, after.node_words)];
-            Ok(recomputed(call, &[particles, nodes]))
-        }
-        0 if which.writes_particles() => Ok(call.particles_answered((&after.particle_floats, &after.particle_words))),
-        0 => Ok(written(which, call, (&after.node_floats, &after.node_words), || call.hits(only(which)))),
-        number => Err((number, index)),
+/// Where a chain begins, and how long it is at the most: slow everyday particles for a long one.
+fn beginning(rng: &mut Rng) -> (Call, usize) {
+    let style = Style::any(rng);
+    if rng.below(4) > 0 {
+        return (style.sample(rng), SUBSTEPS);
     }
+    let width = rng.one_of(&[1.0, 0.5, 0.3, 2.0]);
+    let corner = [0; 2].map(|_| 20 + rng.below(60_000) as u32);
+    let slow = Style { numbers: Numbers::Everyday, cell_width: width, corner, particles: style.particles.min(12), ..style };
+    (Call { dt: rng.one_of(&[0.001, 0.003, 0.01]), ..slow.sample(rng) }, MANY_SUBSTEPS)
 }
 
-/// The Rust has no order of its own to be given: the nodes of any order by colours have to be those of its scatter.
-fn rusts(which: &Which, call: &Call) -> Vec<String> {
-    match which {
-        Which::FirstHalf => return particles(call, &Scene::first_half(call)),
-        Which::SecondHalf => return particles(call, &Scene::second_half(call)),
-        Which::Fluids => return recomputed(call, &Scene::recomputed(call)),
-        _ => {}
-    }
-    let mut scene = Scene::new(call, MmapMut::sparse());
-    match which {
-        Which::Update => scene.update(),
-        Which::Sequence => {
-            scene.clear();
-            scene.scatter();
-            scene.update();
-        }
-        _ => {
-            only(which).into_iter().for_each(|place| scene.only(place));
-            scene.scatter();
-        }
-    }
-    let (floats, words) = scene.nodes();
-    written(which, call, (&floats, &words), || scene.hits())
+fn said(told: String) -> String {
+    println!("{}", told);
+    told
 }
 
-fn particles(call: &Call, (floats, words): &Records) -> Vec<String> {
-    call.particles_answered((floats, words))
-}
-
-/// Particles, and of nodes whether their mass is all that changed.
-fn recomputed(call: &Call, [left, (floats, words)]: &[Records; 2]) -> Vec<String> {
-    [particles(call, left), call.masses_answered((floats, words))].concat()
-}
-
-/// Whether the archive answers this of a step, and of each of its substeps what the Rust made of it.
-fn ports_step_is(step: &Step, course: &Course, taken: &Taken) -> bool {
-    let Taken { count, remaining, end } = *taken;
-    let min = unsafe { mk_min_dt(step.total, step.max_num_substeps) };
-    let mut before = step.total;
-    let substeps_are = course.proposals.iter().zip(&course.lengths).all(|(dt, length)| {
-        let substep = unsafe { mk_substep(before, min, step.max_substep_dt, *dt) };
-        before -= length;
-        (substep.number, substep.index, substep.length, substep.remaining) == (0, 0, *length, before)
-    });
-    let answer = archive::lengths(step, &step.dts);
-    substeps_are
-        && answer.remaining.to_bits() == remaining.to_bits()
-        && answer == Lengths { number: 0, index: 0, count, remaining, end }
-}
-
-/// The nodes afterwards, as an answer has them; each side says by itself which of them a scatter hit.
-fn written(which: &Which, call: &Call, nodes: (&[u32], &[u32]), hits: impl FnOnce() -> Vec<bool>) -> Vec<String> {
-    match which {
-        Which::Update | Which::Sequence => call.all_answered(nodes),
-        _ => call.answered(nodes, &hits()),
-    }
-}
-
-fn only(which: &Which) -> Option<usize> {
-    match which {
-        Which::Region(place) => Some(*place),
-        _ => None,
-    }
-}
-
-fn ports_stage(stage: Stage, call: &Call) -> Answer {
-    let mut after = call.clone();
-    match archive::answer_in_place(&Which::from(stage), &mut after) {
-        Refusal { number: 0, .. } if stage.leaves_particles() => Ok((after.particle_floats, after.particle_words)),
-        Refusal { number: 0, .. } => Ok((after.node_floats, after.node_words)),
-        Refusal { number, index } => Err((number, index)),
-    }
-}
-
-/// What the Rust leaves of a substep. It refuses nothing; what has to be refused here can only be a number of a particle that is not
-/// finite, and clear is given no particles.
-fn rusts_substep(substep: &Substep) -> Vec<Answer> {
-    let not_finite = |call: &Call| call.particle_floats.iter().position(|bits| !f32::from_bits(*bits).is_finite());
-    let refused = |stage: Stage, call: &Call| match stage {
-        Stage::Clear => None,
-        _ => not_finite(call).map(|place| (5, place / PARTICLE_FLOATS)),
+/// A question of numbers that differs, the smallest that still does, and what both answer to that.
+fn told_numbers(leaf: &Leaf, asked: Vec<u64>, answers: [Vec<u64>; 2]) -> String {
+    let both = |asked: &[u64]| [(leaf.port)(asked), leaf.judged(asked)];
+    let differs = |asked: &[u64]| {
+        let [port, right] = both(asked);
+        port != right
     };
-    substep.judged(refused, Scene::substep)
-}
-
-/// A stage's answer, record by record.
-fn left(substep: &Substep, stage: Stage, answer: &Answer) -> Left {
-    match answer {
-        Err(refusal) => Err(*refusal),
-        Ok(records) if stage.leaves_particles() => Ok(particles(&substep.call, records)),
-        Ok((floats, words)) => Ok(substep.call.all_answered((floats, words))),
-    }
-}
-
-fn say_difference(port: &Left, rust: &Left) {
-    match (port, rust) {
-        (Ok(port), Ok(rust)) => {
-            let record = port.iter().zip(rust).position(|(port, rust)| port != rust).unwrap_or(0);
-            println!("record {}: {} and not {}", record, port[record], rust[record]);
+    let first = leaf.written(&asked);
+    let (smallest, [port, right]) = match differs(&asked) {
+        true => {
+            let smallest = shrink::numbers(leaf, asked, differs);
+            let answers = both(&smallest);
+            (leaf.written(&smallest), answers)
         }
-        (Err(port), Err(rust)) => println!("refused by {:?} and not by {:?}", port, rust),
-        (Err(refusal), Ok(_)) => println!("refused by {:?}", refusal),
-        (Ok(_), Err(refusal)) => println!("not refused by {:?}", refusal),
-    }
+        false => (first.clone(), answers),
+    };
+    format!(
+        "{} differs; first:\n{}\nsmallest:\n{}\nthe archive answers {:X?} and not {:X?}",
+        leaf.name, first, smallest, port, right
+    )
+}
+
+/// A call that differs, as small as it still does, and in what. What differs in a chain and not by itself is left as it is.
+fn told_call(ports: &dyn Fn(&Asked) -> Left, asked: Asked, difference: String) -> String {
+    let by_itself = |asked: &Asked| asked.difference(&ports(asked), &asked.judged());
+    let name = asked.kind.name();
+    let (smallest, how, difference) = match by_itself(&asked) {
+        Some(_) => {
+            let smallest = shrink::call(asked, |asked| by_itself(asked).is_some());
+            let difference = by_itself(&smallest).expect("a difference");
+            (smallest, "smallest", difference)
+        }
+        None => (asked, "in a chain, not by itself", difference),
+    };
+    format!("{} differs; {}, {}\n{}", name, how, smallest.written().join("\n"), difference)
 }
 
 #[cfg(test)]
 mod tests {
     use super::*;
+    use samples::particle::{MASS, PHASE};
+    use samples::REGION_NODES;
+    use std::cell::Cell;
 
     #[test]
-    fn what_is_compared_is_told_apart() {
-        let call = Style::plain(1.0, [0, 0], [1, 1], 1).sample(&mut Rng::new(1));
-        let other = Call { dt: call.dt * 2.0, gravity: [1.0, 1.0], ..call.clone() };
-        assert_ne!(rusts(&Which::All, &call), rusts(&Which::All, &other));
-        assert_eq!(ports(&Which::All, &call), Ok(rusts(&Which::All, &call)));
-        assert_eq!(ports(&Which::Region(9), &call), Err((4, 0)));
+    fn a_round_asks_every_function_and_nothing_differs() {
+        let of = |seed: u64| {
+            let mut judge = Judge::new(Box::new(Asked::ports));
+            judge.round(seed, 0);
+            judge.round(seed, 2);
+            assert_eq!((judge.first, judge.table.differ, judge.table.left_out()), (None, 0, vec![]));
+            assert!(judge.table.substeps >= judge.table.chains && judge.table.chains == 4);
+            judge.table.told(0, "")
+        };
+        assert_eq!(of(5), of(5));
+        assert_ne!(of(5), of(6));
+    }
+
+    /// What is said of the calls of a round and of the next, where the archive's answers are changed by this.
+    fn with(wrong: impl Fn(&Asked, &mut Left) + 'static) -> Judge {
+        let mut judge = Judge::new(Box::new(move |asked| {
+            let mut left = asked.ports();
+            wrong(asked, &mut left);
+            left
+        }));
+        (2..4).for_each(|round| judge.round(9, round));
+        judge
+    }
+
+    /// The call that is said to be the smallest.
+    fn smallest(judge: &Judge) -> Asked {
+        let told = judge.first.as_ref().expect("a difference");
+        assert!(told.contains("smallest"), "{}", told);
+        Asked::read(told.lines()).expect("a call")
+    }
+
+    /// A mass that is much too large, wherever a node is hit.
+    #[test]
+    fn a_wrong_scatter_is_told_with_one_particle() {
+        let judge = with(|asked, left| {
+            if asked.kind == Kind::All && left.refusal.0 == 0 {
+                let moved = (0..left.nodes.1.len())
+                    .find(|node| left.nodes.0[node * NODE_FLOATS] != asked.call.node_floats[node * NODE_FLOATS]);
+                moved.into_iter().for_each(|node| left.nodes.0[node * NODE_FLOATS] = 0x7f7f_ffff);
+            }
+        });
+        assert!(judge.table.differ > 5);
+        let Asked { kind, call, .. } = smallest(&judge);
+        assert_eq!((kind, call.particles, call.particle_words.len()), (Kind::All, 1, PARTICLE_WORDS));
+        assert!((1..=4).contains(&call.ids.len()) && call.node_words.len() == REGION_NODES * call.ids.len());
+        let zeros = call.particle_floats.iter().chain(&call.node_floats).filter(|bits| **bits == 0).count();
+        assert!(zeros > 20 + call.node_floats.len() - 1 && call.particle_floats[MASS] != 0, "{}", judge.first.unwrap());
     }
 
     #[test]
-    fn what_is_updated_is_told_apart() {
-        let mut rng = Rng::new(1);
-        let call = bounded(Style::plain(1.0, [0, 0], [3, 3], 9).sample(&mut rng), 3, &mut rng);
-        for which in [Which::Update, Which::Sequence] {
-            assert_eq!(ports(&which, &call), Ok(rusts(&which, &call)));
-        }
-        assert_ne!(rusts(&Which::Sequence, &call), rusts(&Which::All, &call));
-        let mut stuck = call.clone();
-        (stuck.boundary.handling, stuck.boundary.locks) = (samples::STICK, 1);
-        assert_ne!(rusts(&Which::Sequence, &call), rusts(&Which::Sequence, &stuck));
-        stuck.boundary.handling = 4;
-        assert_eq!(ports(&Which::Update, &stuck), Err((4, 0)));
+    fn a_wrong_number_is_told_with_what_it_takes() {
+        let judge = with(|_, left| {
+            if left.refusal.0 == 9 {
+                left.refusal.0 = 8;
+            }
+        });
+        let told = judge.first.as_ref().expect("a difference");
+        assert!(told.ends_with("the archive answers (8, 0) and not (9, 0)"), "{}", told);
+        let Asked { call, .. } = smallest(&judge);
+        assert_eq!((call.particles, call.regions, call.boundary.colliders), (1, 1, 0));
     }
 
     #[test]
-    fn what_is_gathered_is_told_apart() {
-        let mut rng = Rng::new(1);
-        let call = gathered(Style::plain(1.0, [0, 0], [3, 3], 9).sample(&mut rng), &mut rng);
-        for which in [Which::FirstHalf, Which::SecondHalf] {
-            assert_eq!(ports(&which, &call), Ok(rusts(&which, &call)));
-        }
-        assert_ne!(rusts(&Which::FirstHalf, &call), rusts(&Which::SecondHalf, &call));
-        let mut other = call.clone();
-        other.particle_floats[samples::particle::MASS] ^= 1;
-        assert_ne!(rusts(&Which::SecondHalf, &call), rusts(&Which::SecondHalf, &other));
-        other.gather.eigenerosion = 2;
-        assert_eq!(ports(&Which::FirstHalf, &other), Err((4, 0)));
+    fn a_wrong_index_of_damaged_lists_is_told() {
+        let judge = with(|asked, left| {
+            if asked.kind == Kind::SecondHalf && left.refusal.0 == 1 {
+                left.refusal.1 = 1;
+            }
+        });
+        let asked = smallest(&judge);
+        assert_eq!((asked.kind, asked.judged().refusal), (Kind::SecondHalf, (1, 0)));
+        assert!(asked.call.particle_floats.len() + asked.call.gather.given_words.len() < 30, "{}", judge.first.unwrap());
+    }
+
+    #[test]
+    fn what_is_written_where_it_may_not_is_told() {
+        let judge = with(|asked, left| left.is_kept &= !(asked.kind == Kind::Update && left.refusal.0 == 6));
+        let told = judge.first.as_ref().expect("a difference");
+        assert!(told.starts_with("mk_grid_update2 differs; smallest") && told.ends_with("wrote where it may not"), "{}", told);
+        assert_eq!(smallest(&judge).judged().refusal.0, 6);
+    }
+
+    /// A word that is changed although the call is refused, and one that a call does not write.
+    #[test]
+    fn what_is_changed_is_told() {
+        let refused = with(|_, left| {
+            if left.refusal.0 == 4 {
+                left.nodes.1.first_mut().into_iter().for_each(|word| *word ^= 1);
+            }
+        });
+        assert!(refused.first.expect("a difference").contains("\nk0 is 00000001 and not 00000000"));
+        let beside = with(|asked, left| {
+            if asked.kind == Kind::FirstHalf && left.refusal.0 == 0 {
+                left.nodes.0.first_mut().into_iter().for_each(|float| *float ^= 1);
+            }
+        });
+        assert!(beside.first.expect("a difference").contains("\nm0 is 00000001 and not 00000000"));
+    }
+
+    /// Wrong the first time that it is asked, and never again.
+    #[test]
+    fn what_differs_once_is_told_as_it_is() {
+        let (asked_once, mut judge) = (Cell::new(false), Judge::new(Box::new(Asked::ports)));
+        judge.ports = Box::new(move |asked| {
+            let mut left = asked.ports();
+            left.is_kept = asked_once.replace(true);
+            left
+        });
+        let call = Call { dt: 0.01, ..Style::plain(1.0, [9, 9], [3, 3], 4).sample(&mut Rng::new(1)) };
+        judge.take_chain(&call, false, 7, 2);
+        assert_eq!((judge.table.differ, judge.table.substeps, judge.table.calls), (1, 2, 6));
+        assert!(judge.first.expect("a difference").starts_with("mk_clear_scatter_update2 differs; in a chain, not by itself"));
     }
 
     /// A first half that overflows ends a substep on both sides, with the second half's number.
     #[test]
-    fn substeps_are_told_apart_and_refused_alike() {
+    fn chains_are_refused_alike() {
         let mut rng = Rng::new(1);
-        let call = Call { dt: 0.01, ..Style::plain(1.0, [9, 9], [3, 3], 4).sample(&mut rng) };
-        let mut tally = Tally::default();
-        tally.take_substeps(&call, false, 7, 0);
-        tally.take_substeps(&call, true, 7, 0);
-        assert_eq!((tally.differ, tally.refused), (0, 0));
-        assert_eq!(tally.substeps, 2 * SUBSTEPS as u64);
-        let huge = Style { numbers: samples::random::Numbers::Huge, ..Style::plain(1.0, [9, 9], [3, 3], 4) };
+        let mut judge = Judge::new(Box::new(Asked::ports));
+        let huge = Style { numbers: Numbers::Huge, ..Style::plain(1.0, [9, 9], [3, 3], 4) };
         let call = Call { dt: 1.0, ..huge.sample(&mut rng) };
-        tally.take_substeps(&call, false, 7, 0);
-        assert_eq!((tally.differ, tally.refused), (0, 1));
+        judge.take_chain(&call, false, 7, 5);
+        assert_eq!((judge.table.differ, judge.table.substeps, judge.table.calls), (0, 1, 3));
+        assert!(judge.table.told(0, "").contains("3, of which 2 are done and 1 refused"));
+        judge.take_chain(&Call { dt: 0.001, ..Style::plain(1.0, [9, 9], [3, 3], 4).sample(&mut rng) }, true, 7, 5);
+        assert_eq!((judge.table.differ, judge.table.longest, judge.table.calls), (0, 5, 3 + 5 * 5));
+    }
+
+    /// An answer that one stage leaves wrong goes into the next, as it would with a host.
+    #[test]
+    fn a_wrong_stage_is_told_where_it_is_wrong() {
+        let mut judge = Judge::new(Box::new(|asked| {
+            let mut left = asked.ports();
+            if asked.kind == Kind::FirstHalf {
+                left.particles.0.get_mut(PHASE).into_iter().for_each(|phase| *phase = 0x7fc0_0000);
+            }
+            left
+        }));
+        let call = Call { dt: 0.01, ..Style::plain(1.0, [9, 9], [3, 3], 4).sample(&mut Rng::new(1)) };
+        judge.take_chain(&call, false, 7, 1);
+        assert_eq!((judge.table.differ, judge.table.calls), (2, 3));
+        assert!(judge.first.expect("a difference").starts_with("mk_grid_to_particle_first_half2 differs; smallest"));
     }
 
     #[test]
-    fn what_is_recomputed_is_told_apart() {
-        let mut rng = Rng::new(1);
-        let style = Style { old: samples::random::Old::Patterns, ..Style::plain(1.0, [0, 0], [3, 3], 9) };
-        let mut call = style.sample(&mut rng);
-        assert_eq!(ports(&Which::Fluids, &call), Ok(rusts(&Which::Fluids, &call)));
-        assert!(rusts(&Which::Fluids, &call).iter().any(|record| record == "m"));
-        let before = rusts(&Which::Fluids, &call);
-        call.particle_floats[samples::particle::VOLUME] = 77f32.to_bits();
-        call.particle_words[samples::particle::FLUID] = 1;
-        assert_ne!(rusts(&Which::Fluids, &call), before);
-        call.cell_width = 0.0;
-        assert_eq!(ports(&Which::Fluids, &call), Err((3, 0)));
+    fn a_wrong_function_of_numbers_is_told_with_a_small_one() {
+        let mut judge = Judge::new(Box::new(Asked::ports));
+        let root = judge.leaves.iter_mut().find(|leaf| leaf.name == "mk_root").expect("a function");
+        root.port = |asked| vec![if asked[0] & 8 == 8 { 7 } else { u64::from(f32::from_bits(asked[0] as u32).sqrt().to_bits()) }];
+        (0..20).for_each(|round| judge.round(1, round));
+        let told = judge.first.expect("a difference");
+        assert!(told.starts_with("mk_root differs; first:\nq\t"), "{}", told);
+        assert!(told.contains("\nsmallest:\nq\t00000008\nthe archive answers [7] and not "), "{}", told);
     }
 
     #[test]
-    fn steps_are_told_apart() {
-        let mut rng = Rng::new(1);
-        let mut tally = Tally::default();
-        (0..200).for_each(|_| tally.take_step(&Step::any(&mut rng), &mut rng));
-        assert_eq!((tally.differ, tally.steps), (0, 200));
-        assert!(tally.ends.iter().all(|count| *count > 9), "{:?}", tally.ends);
-        let settings = Step { stop_after_one_substep: 0, total: 1.0, max_substep_dt: 1.0, ..Step::any(&mut rng) };
-        let course = random_course(&settings, 1, &mut rng);
-        let step = settings.with(&course.proposals);
-        let taken = course.taken(&step);
-        assert!(ports_step_is(&step, &course, &taken));
-        assert!(!ports_step_is(&step, &course, &Taken { end: taken.end ^ 1, ..taken }));
-        assert!(!ports_step_is(&step, &course, &Taken { remaining: taken.remaining + 1.0, ..taken }));
-        assert!(!ports_step_is(&step, &Course { lengths: vec![0.75 * course.lengths[0]], ..course }, &taken));
-    }
-
-    #[test]
-    fn strange_records_are_counted() {
-        assert!(is_strange(&("0".repeat(48) + "7F800000" + "00000000"), NODE_FLOATS));
-        assert!(!is_strange(&("7F7FFFFF".repeat(7) + "FFFFFFFF"), NODE_FLOATS));
-        let particle = "0".repeat(200) + "FFC00000" + &"0".repeat(32);
-        assert!(is_strange(&particle, PARTICLE_FLOATS));
-    }
-
-    #[test]
-    fn a_difference_is_counted() {
-        let mut tally = Tally::default();
-        let (one, other) = (Ok(vec!["=".to_string()]), Err((5, 0)));
-        tally.hold(&one, &one, true, String::new);
-        tally.hold(&one, &other, true, String::new);
-        tally.hold(&other, &Err((5, 1)), true, String::new);
-        assert_eq!(tally.differ, 2);
+    fn limits_are_asked_on_both_sides() {
+        let mut judge = Judge::new(Box::new(Asked::ports));
+        judge.take_limits(&mut Rng::new(1));
+        assert_eq!((judge.table.differ, judge.table.calls), (0, 6 * 9));
+        let told = judge.table.told(0, "");
+        let sums: Vec<&str> = told.lines().find(|line| line.starts_with("in all")).unwrap().split_whitespace().skip(2).collect();
+        // Two calls are too many for all but those that are given nothing of it, and 17 colliders for two.
+        assert_eq!(sums[..3], ["37", "-", "17"], "{}", told);
     }
 }

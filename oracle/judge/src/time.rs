@@ -1,94 +1,162 @@
-//! How long clear, recomputation of fluids, scatter, update and gather take on as many particles and regions as there may be, here and in the handed-over Rust.
+//! How long every stage and the whole substep take here and in the handed-over Rust, at three sizes, so that growth shows.
 
 use crate::archive::{self, Which};
 use mangerknot_sys::Refusal;
 use samples::particle::FLUID;
-use samples::random::bounded;
+use samples::random::{bounded, order};
 use samples::{plane, Call, Gather, Records, Rng, FRICTION, PARTICLE_FLOATS, PARTICLE_WORDS};
 use sparkl2d::scene::Scene;
 use sparkl2d::MmapMut;
 use std::time::{Duration, Instant};
 
-/// Regions along x and y; those at the far edges have no particles, since stencils reach beyond a region.
-const COLUMNS: u32 = 32;
-const ROWS: u32 = 16;
-const PARTICLES: usize = 65_536;
-const COLLIDERS: usize = 4;
+/// How many particles, and the regions along x and y; those at the far edges have no particles, since stencils reach beyond a region.
+const SIZES: [(usize, [u32; 2]); 3] = [(1_024, [4, 4]), (8_192, [8, 8]), (65_536, [32, 16])];
+/// The colliders' frictions, of which none is so large that a velocity overflows.
+const FRICTIONS: [f32; 4] = [0.0, 0.2, 0.5, 1.0];
 
-/// Times each side so often, in turn; says whether both leave the same nodes and the same particles.
+/// What is timed, on both sides. The Rust has one call for both halves of gather, none that goes in an order, and none for three stages in
+/// one: it is asked for what comes nearest.
+#[derive(Clone, Copy, PartialEq)]
+pub enum Task {
+    Clear,
+    Fluids,
+    Scatter,
+    InOrder,
+    Update,
+    InOne,
+    Gather,
+    Substep,
+}
+
+const TASKS: [(Task, &str); 8] = [
+    (Task::Clear, "clear"),
+    (Task::Fluids, "fluids' volumes"),
+    (Task::Scatter, "scatter"),
+    (Task::InOrder, "scatter, in an order"),
+    (Task::Update, "update"),
+    (Task::InOne, "clear, scatter and update in one"),
+    (Task::Gather, "gather, both halves"),
+    (Task::Substep, "the whole substep"),
+];
+
+/// Times each side so often, in turn, at each size; says whether both leave the same nodes and the same particles.
 pub fn run(repetitions: usize) -> bool {
-    println!("machine: {}; one thread; {} repetitions, medians", crate::machine(), repetitions);
-    let call = full_call();
-    println!("{} particles in {} regions, {} colliders with friction", call.particles, call.regions, call.boundary.colliders);
-    let mut port = Port { call: call.clone() };
-    let mut rust = Rust { scene: Scene::new(&call, memory(&call)) };
-    let mut times = Times::default();
-    let mut same_particles = true;
-    // A region without particles is scattered after the check of everything, and to no node.
-    let empty = Which::Region(call.regions as usize - 1);
+    println!("machine: {}; one thread; {} repetitions, medians; {} colliders with friction", crate::machine(), repetitions, FRICTIONS.len());
+    println!("the port's times have its checks in them, and the Rust checks nothing");
+    println!("{:>9}  {:<33}{:>11}{:>11}{:>8}{:>13}{:>13}", "particles", "", "port ms", "Rust ms", "ratio", "port ns each", "Rust ns each");
+    let same: Vec<bool> = SIZES.iter().map(|(particles, regions)| table(*particles, *regions, repetitions)).collect();
+    same.into_iter().all(|same| same)
+}
+
+/// The rows of one size.
+fn table(particles: usize, regions: [u32; 2], repetitions: usize) -> bool {
+    let mut sides = Sides::new(full_call(particles, regions));
+    let mut times = vec![[vec![], vec![]]; TASKS.len()];
+    let mut same = true;
     for _ in 0..repetitions {
-        times.port_clear.push(timed(|| port.ask(&Which::Clear)));
-        times.port_fluids.push(timed(|| port.ask(&Which::Fluids)));
-        times.port_scatter.push(timed(|| port.ask(&Which::All)));
-        times.port_check.push(timed(|| port.ask(&empty)));
-        times.port_update.push(timed(|| port.ask(&Which::Update)));
-        let first = timed(|| port.ask(&Which::FirstHalf));
-        let second = timed(|| port.ask(&Which::SecondHalf));
-        times.port_first_half.push(first);
-        times.port_gather.push(first + second);
-        times.rust_clear.push(timed(|| rust.scene.clear()));
-        times.rust_fluids.push(timed(|| rust.scene.recompute_fluids()));
-        times.rust_scatter.push(timed(|| rust.scene.scatter()));
-        times.rust_update.push(timed(|| rust.scene.update()));
-        times.rust_gather.push(timed(|| rust.scene.gather()));
-        same_particles &= rust.scene.particles() == port.particles();
-        // Each repetition starts from where the particles were.
-        (port.call.particle_floats, port.call.particle_words) = (call.particle_floats.clone(), call.particle_words.clone());
-        rust.scene.put_back();
+        for ((task, _), [port, rust]) in TASKS.iter().zip(&mut times) {
+            sides.put_back(*task);
+            port.push(timed(|| sides.port.go(*task)));
+            rust.push(timed(|| sides.rust.go(*task)));
+            same &= sides.are_same(*task);
+        }
     }
-    say("clear", &mut times.port_clear, &mut times.rust_clear);
-    say("recomputation of fluids", &mut times.port_fluids, &mut times.rust_fluids);
-    say("scatter", &mut times.port_scatter, &mut times.rust_scatter);
-    say("update", &mut times.port_update, &mut times.rust_update);
-    say("gather, both halves", &mut times.port_gather, &mut times.rust_gather);
-    println!("of the port's scatter, its check: {:.3} ms", 1e3 * median(&mut times.port_check).as_secs_f64());
-    println!("of the port's gather, its first half: {:.3} ms", 1e3 * median(&mut times.port_first_half).as_secs_f64());
-    let (floats, words) = rust.scene.nodes();
-    let same_nodes = (&floats, &words) == (&port.call.node_floats, &port.call.node_words);
-    println!("nodes: {}", said(same_nodes));
-    println!("particles: {}", said(same_particles));
-    same_nodes && same_particles
+    for ((_, name), [port, rust]) in TASKS.iter().zip(&mut times) {
+        let [port, rust] = [median(port), median(rust)].map(|time| time.as_secs_f64());
+        let each = |time: f64| 1e9 * time / particles as f64;
+        let (ms, ratio) = ([1e3 * port, 1e3 * rust], port / rust);
+        println!("{:>9}  {:<33}{:>11.3}{:>11.3}{:>8.2}{:>13.1}{:>13.1}", particles, name, ms[0], ms[1], ratio, each(port), each(rust));
+    }
+    println!("{:>9}  nodes and particles after each: {}", particles, if same { "the same" } else { "DIFFERENT" });
+    same
 }
 
-fn said(same: bool) -> &'static str {
-    if same {
-        "the same"
-    } else {
-        "DIFFERENT"
-    }
+/// One side's task once, for a program that counts what is executed in `counted`. Says whether there is such a side, task and size.
+pub fn once(side: &str, task: &str, particles: usize) -> Option<bool> {
+    let (task, _) = TASKS.iter().find(|(_, name)| *name == task)?;
+    let (particles, regions) = SIZES.iter().find(|(size, _)| *size == particles)?;
+    let is_port = ["rust", "port"].iter().position(|name| *name == side)? == 1;
+    let mut sides = Sides::new(full_call(*particles, *regions));
+    sides.put_back(*task);
+    sides.counted(is_port, *task);
+    Some(true)
 }
 
-#[derive(Default)]
-struct Times {
-    port_clear: Vec<Duration>,
-    port_fluids: Vec<Duration>,
-    port_scatter: Vec<Duration>,
-    port_check: Vec<Duration>,
-    port_update: Vec<Duration>,
-    port_first_half: Vec<Duration>,
-    port_gather: Vec<Duration>,
-    rust_clear: Vec<Duration>,
-    rust_fluids: Vec<Duration>,
-    rust_scatter: Vec<Duration>,
-    rust_update: Vec<Duration>,
-    rust_gather: Vec<Duration>,
+/// Both sides, and where both begin.
+struct Sides {
+    call: Call,
+    port: Port,
+    rust: Rust,
+}
+
+impl Sides {
+    fn new(call: Call) -> Self {
+        let order = order(&call, &mut Rng::new(2));
+        let rust = Rust { scene: Scene::new(&call, memory(&call)) };
+        Sides { port: Port { call: call.clone(), order }, rust, call }
+    }
+
+    /// Particles where they were, and nodes as the stage before a task leaves them.
+    fn put_back(&mut self, task: Task) {
+        (self.port.call.particle_floats, self.port.call.particle_words) =
+            (self.call.particle_floats.clone(), self.call.particle_words.clone());
+        self.rust.scene.put_back();
+        let before: &[Task] = match task {
+            // What stands on the nodes is old, as from the substep before.
+            Task::Clear | Task::InOne | Task::Substep => &[Task::Clear, Task::Scatter],
+            Task::Fluids | Task::Scatter | Task::InOrder => &[Task::Clear],
+            Task::Update => &[Task::Clear, Task::Scatter],
+            Task::Gather => &[Task::Clear, Task::Scatter, Task::Update],
+        };
+        for task in before {
+            self.port.go(*task);
+            self.rust.go(*task);
+        }
+    }
+
+    /// A task of one side, with a name of its own in the program, by which it is found there.
+    #[inline(never)]
+    fn counted(&mut self, is_port: bool, task: Task) {
+        match is_port {
+            true => self.port.go(task),
+            false => self.rust.go(task),
+        }
+    }
+
+    fn are_same(&self, task: Task) -> bool {
+        let (floats, words) = self.rust.scene.nodes();
+        let same_nodes = (&floats, &words) == (&self.port.call.node_floats, &self.port.call.node_words);
+        let moves = matches!(task, Task::Fluids | Task::Gather | Task::Substep);
+        same_nodes && (!moves || self.rust.scene.particles() == self.port.particles())
+    }
 }
 
 struct Port {
     call: Call,
+    order: Vec<u64>,
 }
 
 impl Port {
+    fn go(&mut self, task: Task) {
+        match task {
+            Task::Clear => self.ask(&Which::Clear),
+            Task::Fluids => self.ask(&Which::Fluids),
+            Task::Scatter => self.ask(&Which::All),
+            Task::InOrder => {
+                let order = std::mem::take(&mut self.order);
+                self.ask(&Which::Order(&order));
+                self.order = order;
+            }
+            Task::Update => self.ask(&Which::Update),
+            Task::InOne => self.ask(&Which::Sequence),
+            Task::Gather => {
+                self.ask(&Which::FirstHalf);
+                self.ask(&Which::SecondHalf);
+            }
+            Task::Substep => [Task::Clear, Task::Scatter, Task::Update, Task::Gather].iter().for_each(|stage| self.go(*stage)),
+        }
+    }
+
     fn ask(&mut self, which: &Which) {
         assert_eq!(archive::answer_in_place(which, &mut self.call), Refusal { number: 0, index: 0 });
     }
@@ -100,6 +168,20 @@ impl Port {
 
 struct Rust {
     scene: Scene,
+}
+
+impl Rust {
+    fn go(&mut self, task: Task) {
+        match task {
+            Task::Clear => self.scene.clear(),
+            Task::Fluids => self.scene.recompute_fluids(),
+            Task::Scatter | Task::InOrder => self.scene.scatter(),
+            Task::Update => self.scene.update(),
+            Task::InOne => [Task::Clear, Task::Scatter, Task::Update].iter().for_each(|stage| self.go(*stage)),
+            Task::Gather => self.scene.gather(),
+            Task::Substep => [Task::InOne, Task::Gather].iter().for_each(|stage| self.go(*stage)),
+        }
+    }
 }
 
 /// One map that reaches the last region, as the Rust would have it; nothing is looked up in it.
@@ -119,38 +201,33 @@ fn median(times: &mut [Duration]) -> Duration {
     times[times.len() / 2]
 }
 
-fn say(what: &str, port: &mut [Duration], rust: &mut [Duration]) {
-    let (port, rust) = (median(port), median(rust));
-    let ratio = port.as_secs_f64() / rust.as_secs_f64();
-    println!("{}: port {:.3} ms, Rust {:.3} ms, ratio {:.2}", what, 1e3 * port.as_secs_f64(), 1e3 * rust.as_secs_f64(), ratio);
-}
-
 /// A block of regions, filled evenly but for its far edges, with everyday particles, a fourth of them fluid, and points about every cell.
 /// Densities are given as what is not zero, as the Rust finds them by itself.
-fn full_call() -> Call {
+fn full_call(particles: usize, [columns, rows]: [u32; 2]) -> Call {
     let mut ids: Vec<u64> =
-        (0..COLUMNS * ROWS).map(|place| plane::region([4 * (place % COLUMNS), 4 * (place / COLUMNS)])).collect();
+        (0..columns * rows).map(|place| plane::region([4 * (place % columns), 4 * (place / columns)])).collect();
     ids.sort_unstable();
     let mut call = Call { dt: 0.001, gravity: [0.0, -9.81], ..Call::on(ids) };
-    let cells = [4 * (COLUMNS - 1), 4 * (ROWS - 1)];
+    let cells = [4 * (columns - 1), 4 * (rows - 1)];
     let mut rng = Rng::new(1);
-    let mut records: Vec<(u64, [f32; PARTICLE_FLOATS])> = (0..PARTICLES).map(|_| particle(cells, &mut rng)).collect();
+    let mut records: Vec<(u64, [f32; PARTICLE_FLOATS])> = (0..particles).map(|_| particle(cells, &mut rng)).collect();
     records.sort_by_key(|(region, _)| *region);
-    call.particles = PARTICLES as u64;
+    call.particles = particles as u64;
     call.particle_floats = records.iter().flat_map(|(_, floats)| floats.map(f32::to_bits)).collect();
-    call.particle_words = vec![0; PARTICLES * PARTICLE_WORDS];
+    call.particle_words = vec![0; particles * PARTICLE_WORDS];
     for (place, id) in call.ids.iter().enumerate() {
         let before = |least: u64| records.partition_point(|(region, _)| *region < least) as u64;
         let (start, end) = (before(*id), before(id + 1));
         call.ranges[2 * place..2 * place + 2].copy_from_slice(&[start, end - start]);
     }
-    let mut call = bounded(call, COLLIDERS, &mut rng);
+    let mut call = bounded(call, FRICTIONS.len(), &mut rng);
     (call.boundary.handling, call.boundary.locks) = (FRICTION, 0);
+    call.boundary.frictions = FRICTIONS.map(f32::to_bits).to_vec();
     call.particle_words.iter_mut().skip(FLUID).step_by(4 * PARTICLE_WORDS).for_each(|is_fluid| *is_fluid = 1);
     call.gather = Gather {
         eigenerosion: 1,
-        given_floats: (0..PARTICLES).flat_map(|_| [4.0, rng.between(-1.0, 1.0)]).map(f32::to_bits).collect(),
-        given_words: (0..PARTICLES).map(|place| u32::from(place % 10 == 0)).collect(),
+        given_floats: (0..particles).flat_map(|_| [4.0, rng.between(-1.0, 1.0)]).map(f32::to_bits).collect(),
+        given_words: (0..particles).map(|place| u32::from(place % 10 == 0)).collect(),
     };
     call
 }
@@ -169,26 +246,36 @@ mod tests {
     use super::*;
 
     #[test]
-    fn the_call_is_as_large_as_may_be_and_accepted() {
-        let call = full_call();
-        assert_eq!((call.regions, call.particles), (512, 65_536));
-        let mut port = Port { call };
-        let before = port.call.clone();
-        port.ask(&Which::Fluids);
-        let (floats, words) = port.particles();
-        let recomputed = before.particles_answered((&floats, &words));
-        assert_eq!(recomputed.iter().filter(|particle| *particle != "=").count(), PARTICLES / 4);
-        port.ask(&Which::All);
-        assert!(port.call.hits(None).iter().filter(|hit| **hit).count() > 7000);
-        let scattered = port.call.clone();
-        port.ask(&Which::Update);
-        let nodes = scattered.all_answered((&port.call.node_floats, &port.call.node_words));
-        assert!(nodes.iter().filter(|node| *node != "=").count() > 4000);
-        let before = port.call.clone();
-        port.ask(&Which::FirstHalf);
-        port.ask(&Which::SecondHalf);
-        let (floats, words) = port.particles();
-        assert!(before.particles_answered((&floats, &words)).iter().all(|particle| particle != "="));
+    fn the_largest_call_is_as_large_as_may_be_and_every_task_has_work() {
+        let (particles, regions) = SIZES[2];
+        let mut sides = Sides::new(full_call(particles, regions));
+        assert_eq!((sides.call.regions, sides.call.particles), (512, 65_536));
+        for (task, name) in TASKS {
+            sides.put_back(task);
+            let before = sides.port.call.clone();
+            sides.port.go(task);
+            sides.rust.go(task);
+            let (nodes, moved) = (sides.port.call.node_floats != before.node_floats, sides.port.particles().0 != before.particle_floats);
+            assert!(nodes || moved, "{} does nothing", name);
+            assert!(sides.are_same(task), "{} differs", name);
+        }
+    }
+
+    #[test]
+    fn every_size_is_accepted() {
+        for (particles, regions) in SIZES {
+            let mut sides = Sides::new(full_call(particles, regions));
+            sides.port.go(Task::Substep);
+            assert_ne!(sides.port.particles().0, sides.call.particle_floats);
+        }
+    }
+
+    #[test]
+    fn what_is_not_there_is_not_done() {
+        assert_eq!(["rust", "port"].map(|side| once(side, "clear", 1_024)), [Some(true); 2]);
+        assert_eq!(once("port", "nothing", 1_024), None);
+        assert_eq!(once("neither", "clear", 1_024), None);
+        assert_eq!(once("port", "clear", 1_000), None);
     }
 
     #[test]

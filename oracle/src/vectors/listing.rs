@@ -7,10 +7,12 @@ mod examples;
 
 use super::scatter::{listing, ENDS, SOURCES};
 use super::{faults, Sheet, OF_BOTH};
-use crate::listing::{printed, LISTED_FLOATS, MOST_PARTICLES, MOST_REGIONS};
+use crate::listing::printed;
 use crate::rng::{Rng, SEED};
 pub use examples::examples;
+use samples::damage::{changed_bytes, NO_FLOATS, NO_LETTERS, NO_LINES, NO_NUMBERS};
 use samples::lines::Edit;
+use samples::listing::{lines, pieces, with_field, with_line, Lines, LISTED_FLOATS, MOST_PARTICLES, MOST_REGIONS};
 use samples::particle::{CRACK_FACTOR, FAILED, GRADIENT, MASS, PHASE, PSI, STRESS, VOLUME};
 use samples::random::{Numbers, Style, LAST_CELL, WIDTHS};
 use samples::{Call, PARTICLE_FLOATS, PARTICLE_WORDS};
@@ -24,9 +26,6 @@ const LEGEND: [&str; 6] = [
     "Numbers 3 to 10 are `reading`'s, nodes the Rust's; 2, 11 and how it is printed are `listing`'s.",
     "End of the header.",
 ];
-
-/// The lines of a listing, good or not, each with its line feed.
-type Lines = Vec<Vec<u8>>;
 
 pub fn make() -> Sheet {
     // Nodes, and the coordinates of their cells.
@@ -61,59 +60,6 @@ impl Listings {
         let call = style.sample(&mut self.rng);
         self.ask_call(&call);
     }
-}
-
-/// A text's lines, each as it is written in a sheet, and those that are alike in a row as one.
-fn pieces(text: &[u8]) -> Vec<String> {
-    let mut found: Vec<(usize, &[u8])> = vec![];
-    for line in text.split_inclusive(|byte| *byte == b'\n') {
-        match found.last_mut() {
-            Some((count, last)) if *last == line => *count += 1,
-            _ => found.push((1, line)),
-        }
-    }
-    let written = |line: &[u8]| line.iter().map(|byte| shown(*byte)).collect::<String>();
-    found.iter().map(|(count, line)| if *count > 1 { format!("{}*{}", count, written(line)) } else { written(line) }).collect()
-}
-
-fn shown(byte: u8) -> String {
-    match byte {
-        b'\t' => "\\t".to_string(),
-        b'\n' => "\\n".to_string(),
-        b'\\' | b'*' => format!("\\x{:02X}", byte),
-        b'!'..=b'~' => char::from(byte).to_string(),
-        _ => format!("\\x{:02X}", byte),
-    }
-}
-
-/// A call of a scatter as a listing, with as much of it as a listing has.
-fn lines(call: &Call) -> Lines {
-    let floats = |floats: &[u32]| floats.iter().map(|bits| format!("\t{:08X}", bits)).collect::<String>();
-    let settings = [call.cell_width, call.dt, call.gravity[0], call.gravity[1]].map(f32::to_bits);
-    let mut found = vec![format!("w{}\n", floats(&settings))];
-    let regions = call.ids.iter().zip(call.ranges.chunks(2));
-    found.extend(regions.map(|(id, range)| format!("r\t{}\t{}\t{}\n", id, range[0], range[1])));
-    let particles = call.particle_floats.chunks(PARTICLE_FLOATS).zip(call.particle_words.chunks(PARTICLE_WORDS));
-    found.extend(particles.map(|(own, words)| format!("p{}\t{}\n", floats(&own[..LISTED_FLOATS]), words[FAILED])));
-    found.into_iter().map(String::into_bytes).collect()
-}
-
-/// The lines with another field in one of them; field 0 is the letter.
-fn with_field(lines: &[Vec<u8>], line: usize, field: usize, other: &[u8]) -> Lines {
-    let mut lines = lines.to_vec();
-    let text = lines[line].strip_suffix(b"\n").expect("a whole line");
-    let mut fields: Vec<&[u8]> = text.split(|byte| *byte == b'\t').collect();
-    fields[field] = other;
-    let text = [fields.join(&b'\t'), b"\n".to_vec()].concat();
-    lines[line] = text;
-    lines
-}
-
-/// The lines with this in place of one of them, which may be none or several.
-fn with_line(lines: &[Vec<u8>], line: usize, other: &[u8]) -> Lines {
-    let mut lines = lines.to_vec();
-    lines[line] = other.to_vec();
-    lines
 }
 
 fn first_regions(count: u64) -> Vec<u64> {
@@ -374,83 +320,6 @@ fn listed_faults(call: &Call) -> Vec<Vec<Edit>> {
 
 // Listings that cannot be read.
 
-/// No floats, as a field; the last few are good ones with a byte too much.
-const NO_FLOATS: [&[u8]; 24] = [
-    b"",
-    b"0",
-    b"1",
-    b"1.0",
-    b"3F80000",
-    b"03F800000",
-    b"3F8000000",
-    b"3f800000",
-    b"3F80000f",
-    b"3F80000G",
-    b"3F80000O",
-    b"0x3F8000",
-    b"0X3F8000",
-    b"+3F80000",
-    b"-3F80000",
-    b"3F8 0000",
-    b"3F80_000",
-    b"3F80000\xC3",
-    b"NaN",
-    b"infinity",
-    b" 3F800000",
-    b"3F800000 ",
-    b"3F800000\0",
-    b"3F800000\r",
-];
-
-/// No whole numbers, as a field.
-const NO_NUMBERS: [&[u8]; 22] = [
-    b"",
-    b"00",
-    b"01",
-    b"000",
-    b"-0",
-    b"-1",
-    b"+0",
-    b"+1",
-    b" 1",
-    b"1 ",
-    b"0\r",
-    b"0\0",
-    b"0.0",
-    b"1e0",
-    b"0x1",
-    b"A",
-    b"1_000",
-    b"18446744073709551616",
-    b"18446744073709551617",
-    b"99999999999999999999",
-    b"100000000000000000000000000000000000000000",
-    b"\xD9\xA1",
-];
-
-/// Letters that begin no line, or not this one.
-const NO_LETTERS: [&[u8]; 12] = [b"", b"W", b"ww", b" w", b"w ", b"x", b"n", b"#", b"\0", b"\xEF\xBB\xBFw", b"r", b"p"];
-
-/// Whole lines that cannot be read, wherever they stand.
-const NO_LINES: [&[u8]; 16] = [
-    b"\n",
-    b"\r\n",
-    b" \n",
-    b"\t\n",
-    b"\0\n",
-    b"# a comment\n",
-    b"w\n",
-    b"r\n",
-    b"p\n",
-    b"r\t\n",
-    b"p\t\n",
-    b"ok\t0\n",
-    b"no\t11\t0\n",
-    b"\xFF\xFE\n",
-    b"\xE2\x80\xA8\n",
-    b"x",
-];
-
 impl Listings {
     fn unreadable(&mut self) {
         let corner = Style::plain(1.0, [3, 3], [1, 1], 2).sample(&mut self.rng);
@@ -465,7 +334,7 @@ impl Listings {
         self.behind_many(&good);
         self.behind_faults(&good);
         for _ in 0..130 {
-            let changed = self.changed_bytes(&good.concat());
+            let changed = changed_bytes(&good.concat(), &mut self.rng);
             self.ask(&changed);
         }
     }
@@ -621,50 +490,14 @@ impl Listings {
             self.ask(&[&faulty.concat(), NO_LINES[place]].concat());
         }
     }
-
-    /// One byte of a text, or now and then two, replaced, left out, put in or said twice.
-    fn changed_bytes(&mut self, text: &[u8]) -> Vec<u8> {
-        const OTHERS: &[u8] = b"0123456789ABCDEFabcdefg\t\t\t\n\n\n \r\0+-.wrpn\x80\xFF";
-        let mut text = text.to_vec();
-        for _ in 0..self.rng.one_of(&[1, 1, 1, 2]) {
-            let (place, other) = (self.rng.below(text.len() as u64) as usize, self.rng.one_of(OTHERS));
-            match self.rng.below(5) {
-                0 => drop(text.remove(place)),
-                1 => text.insert(place, other),
-                2 => text.insert(place, text[place]),
-                _ => text[place] = other,
-            }
-        }
-        text
-    }
 }
 
 #[cfg(test)]
 mod tests {
     use super::*;
     use crate::vectors::format::rows;
+    use samples::listing::text;
     use std::collections::{BTreeMap, BTreeSet};
-
-    /// A text from its pieces.
-    fn text(pieces: &[&str]) -> Vec<u8> {
-        pieces.iter().flat_map(|piece| unfolded(piece)).collect()
-    }
-
-    fn unfolded(piece: &str) -> Vec<u8> {
-        let (count, line) = piece.split_once('*').map_or((1, piece), |(count, line)| (count.parse().unwrap(), line));
-        let mut parts = line.split('\\');
-        let mut bytes = parts.next().unwrap().as_bytes().to_vec();
-        for part in parts {
-            let (byte, length) = match part.as_bytes()[0] {
-                b't' => (b'\t', 1),
-                b'n' => (b'\n', 1),
-                _ => (u8::from_str_radix(&part[1..3], 16).unwrap(), 3),
-            };
-            bytes.push(byte);
-            bytes.extend(part[length..].bytes());
-        }
-        bytes.repeat(count)
-    }
 
     /// Every listing and its answer.
     fn listings() -> Vec<(Vec<u8>, String)> {
@@ -682,9 +515,6 @@ mod tests {
         }
         let texts: BTreeSet<&Vec<u8>> = listings.iter().map(|(text, _)| text).collect();
         assert_eq!(texts.len(), listings.len());
-        let written = ["a\\x5C\\x2A", "3*\\t\\xFF\\n"];
-        assert_eq!(text(&written), b"a\\*\t\xFF\n\t\xFF\n\t\xFF\n");
-        assert_eq!(pieces(b"\\*\n \n \n~"), ["\\x5C\\x2A\\n", "2*\\x20\\n", "~"]);
     }
 
     /// Every number that the program can answer, often and with several indices; number 1 it cannot.
@@ -729,7 +559,7 @@ mod tests {
             let call = Style::any(&mut book.rng).sample(&mut book.rng);
             let good = lines(&call).concat();
             assert_eq!(printed(&good), by_hand::printed(&good, ""));
-            let changed = book.changed_bytes(&good);
+            let changed = changed_bytes(&good, &mut book.rng);
             assert_eq!(printed(&changed), by_hand::printed(&changed, ""), "{:?}", pieces(&changed));
             let mut shuffled = lines(&call);
             book.rng.shuffle(&mut shuffled[1..]);

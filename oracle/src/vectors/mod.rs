@@ -1,17 +1,17 @@
 //! The vectors files: questions for the project's programs or its archive, and the answers that the port is held to.
 
 mod book;
-mod faults;
-mod floats;
+pub mod faults;
+pub mod floats;
 mod fluids;
-mod gather;
+pub mod gather;
 mod grid;
 #[cfg(test)]
 mod hands;
 mod lengths;
 mod listing;
-mod numeric;
-mod packing;
+pub mod numeric;
+pub mod packing;
 mod scatter;
 mod update;
 

@@ -42,7 +42,8 @@ pub fn make() -> Sheet {
 
 // Answers.
 
-fn answers(operation: char, question: &[u32]) -> Vec<u32> {
+/// What Rust or the handed-over files answer to the question of this letter.
+pub fn answers(operation: char, question: &[u32]) -> Vec<u32> {
     let numbers: Vec<f32> = question.iter().map(|bits| f32::from_bits(*bits)).collect();
     match (operation, &numbers[..]) {
         ('c', [x]) => vec![*x as u32],
@@ -164,7 +165,7 @@ fn pairs(rng: &mut Rng) -> Vec<(u32, u32)> {
 
 /// Whether every Rust on every machine answers the pair's maximum alike: of a signalling NaN and a number x86-64 answers the
 /// number, and aarch64 a NaN.
-fn is_settled((a, b): (u32, u32)) -> bool {
+pub fn is_settled((a, b): (u32, u32)) -> bool {
     let is_zero = |bits: u32| bits & !SIGN == 0;
     let is_signalling = |bits: u32| f32::from_bits(bits).is_nan() && bits & QUIET == 0;
     !(is_zero(a) && is_zero(b) || is_signalling(a) || is_signalling(b))

@@ -13,26 +13,26 @@ use sparkl3d::geometry::way_in as rust3;
 const SOURCES: [&str; 4] = ["src/geometry/sp_grid.rs", "src/geometry/mod.rs", "src/utils/morton2.rs", "src/utils/morton3.rs"];
 
 /// The Rust's shift of a colour by 12 loses bits from here on, so no question has such a colour.
-const COLOUR_BOUND: u64 = 1 << 52;
+pub const COLOUR_BOUND: u64 = 1 << 52;
 
 /// What the compiled Rust offers in one dimension; coordinates are slices here, so that both dimensions are asked alike.
-struct Rust {
-    digit: char,
-    axes: usize,
+pub struct Rust {
+    pub digit: char,
+    pub axes: usize,
     /// The bits after which a coordinate wraps in a sum.
-    sum_bits: u32,
-    pack: fn(&[u32]) -> u64,
-    packi: fn(&[i32]) -> u64,
-    unpack: fn(u64) -> Vec<u32>,
-    packed_add: fn(u64, u64) -> u64,
-    shift_cell_neg_one: fn(u64) -> u64,
-    shift_cell_neg_two: fn(u64) -> u64,
-    is_in_region_with_color: fn(u64, u64) -> bool,
-    region_neighbors: fn(u64) -> Vec<u64>,
-    nbh_shifts: fn() -> Vec<u64>,
-    nbh_region_shifts: fn() -> Vec<u64>,
-    packed_nbh_shifts: &'static [u64],
-    packed_plus_five: u64,
+    pub sum_bits: u32,
+    pub pack: fn(&[u32]) -> u64,
+    pub packi: fn(&[i32]) -> u64,
+    pub unpack: fn(u64) -> Vec<u32>,
+    pub packed_add: fn(u64, u64) -> u64,
+    pub shift_cell_neg_one: fn(u64) -> u64,
+    pub shift_cell_neg_two: fn(u64) -> u64,
+    pub is_in_region_with_color: fn(u64, u64) -> bool,
+    pub region_neighbors: fn(u64) -> Vec<u64>,
+    pub nbh_shifts: fn() -> Vec<u64>,
+    pub nbh_region_shifts: fn() -> Vec<u64>,
+    pub packed_nbh_shifts: &'static [u64],
+    pub packed_plus_five: u64,
 }
 
 macro_rules! rust {
@@ -58,15 +58,15 @@ macro_rules! rust {
     }};
 }
 
-fn rust_2d() -> Rust {
+pub fn rust_2d() -> Rust {
     rust!('2', 28, sparkl2d, rust2)
 }
 
-fn rust_3d() -> Rust {
+pub fn rust_3d() -> Rust {
     rust!('3', 19, sparkl3d, rust3)
 }
 
-type Sum = fn(u64, u64) -> u64;
+pub type Sum = fn(u64, u64) -> u64;
 
 /// The Rust takes a sum's mask when it is compiled, so the masks to be asked are listed here.
 macro_rules! sums_by_mask {
@@ -75,7 +75,7 @@ macro_rules! sums_by_mask {
     };
 }
 
-fn sums_by_mask() -> Vec<(u64, Sum)> {
+pub fn sums_by_mask() -> Vec<(u64, Sum)> {
     sums_by_mask![
         rust2::BLOCK_MX,
         rust2::BLOCK_MY,
@@ -236,7 +236,7 @@ pub fn edge_ids() -> Vec<u64> {
 }
 
 /// Random ids, stray bits and all, in turn even, sparse and dense ones, and packed ones without stray bits.
-fn random_id(rust: &Rust, rng: &mut Rng) -> u64 {
+pub fn random_id(rust: &Rust, rng: &mut Rng) -> u64 {
     match rng.below(4) {
         0 => rng.number(),
         1 => rng.number() & rng.number() & rng.number(),
@@ -278,7 +278,7 @@ fn ids_alone(sheet: &mut Sheet, rust: &Rust, rng: &mut Rng) {
 }
 
 /// The low pairs of the Rust's coordinates, the last axis leading.
-fn number_in_region(rust: &Rust, id: u64) -> u32 {
+pub fn number_in_region(rust: &Rust, id: u64) -> u32 {
     (rust.unpack)(id).iter().rev().fold(0, |number, part| 4 * number + part % 4)
 }
 
@@ -362,7 +362,7 @@ fn cells_of_regions(sheet: &mut Sheet, rust: &Rust, rng: &mut Rng) {
 }
 
 /// The number's base-four digits as coordinates, the lowest digit the first axis's.
-fn cell_of_region(rust: &Rust, region: u64, number: u64) -> u64 {
+pub fn cell_of_region(rust: &Rust, region: u64, number: u64) -> u64 {
     let cell: Vec<u32> = (0..rust.axes).map(|axis| (number >> (2 * axis)) as u32 % 4).collect();
     (rust.packed_add)(region & rust2::REGION_ID_MASK, (rust.pack)(&cell))
 }
