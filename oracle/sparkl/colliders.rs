@@ -51,7 +51,8 @@ impl Collider {
 
     pub fn project_point(&self, _: (), _: &Point<Real>, _: bool) -> query::PointProjection {
         let asked = self.asked.get();
-        self.asked.set((asked + 1) % self.projections.len());
+        let next = asked + 1;
+        self.asked.set(if next == self.projections.len() { 0 } else { next });
         self.projections[asked]
     }
 }

@@ -121,7 +121,7 @@ impl Mul<RowVector> for Vector<Real> {
     type Output = Matrix<Real>;
 
     fn mul(self, RowVector(row): RowVector) -> Matrix<Real> {
-        SMatrix([self.x, self.y].map(|part| [part * row.x, part * row.y]))
+        SMatrix([[self.x * row.x, self.x * row.y], [self.y * row.x, self.y * row.y]])
     }
 }
 
@@ -353,14 +353,19 @@ impl<const R: usize, const C: usize> SMatrix<Real, R, C> {
         made
     }
 
+    /// By places, which a compiler lays out as straight code, as it does nalgebra's.
+    #[inline(always)]
     pub fn zip_map(&self, other: &Self, mut f: impl FnMut(Real, Real) -> Real) -> Self {
         let mut made = *self;
-        for (part, other) in made.0.iter_mut().flatten().zip(other.0.iter().flatten()) {
-            *part = f(*part, *other);
+        for row in 0..R {
+            for column in 0..C {
+                made.0[row][column] = f(self.0[row][column], other.0[row][column]);
+            }
         }
         made
     }
 
+    #[inline(always)]
     fn map(&self, mut f: impl FnMut(Real) -> Real) -> Self {
         self.zip_map(self, |part, _| f(part))
     }
@@ -457,8 +462,9 @@ impl<const R: usize, const C: usize> Mul<SMatrix<Real, R, C>> for Real {
 impl Mul<Vector<Real>> for Matrix<Real> {
     type Output = Vector<Real>;
 
-    fn mul(self, vector: Vector<Real>) -> Vector<Real> {
-        Vector::from(self.0.map(|[x, y]| x * vector.x + y * vector.y))
+    fn mul(self, Vector { x, y }: Vector<Real>) -> Vector<Real> {
+        let [[a, b], [c, d]] = self.0;
+        Vector { x: a * x + b * y, y: c * x + d * y }
     }
 }
 
@@ -467,8 +473,8 @@ impl Mul for Matrix<Real> {
     type Output = Self;
 
     fn mul(self, other: Self) -> Self {
-        let columns = other.transpose().0;
-        SMatrix(self.0.map(|[x, y]| columns.map(|column| x * column[0] + y * column[1])))
+        let ([[a, b], [c, d]], [[e, f], [g, h]]) = (self.0, other.0);
+        SMatrix([[a * e + b * g, a * f + b * h], [c * e + d * g, c * f + d * h]])
     }
 }
 

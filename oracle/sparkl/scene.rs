@@ -222,10 +222,12 @@ impl Scene {
 
     /// What `ParticleSet::sort` does to the nodes of the regions that it found before; it does not do this alone.
     pub fn clear(&mut self) {
-        self.words.fill(0);
-        for cell in self.ids.iter().flat_map(|region| cells(*region)) {
-            self.grid.get_packed_mut(cell).reset();
+        for region in &self.ids {
+            for cell in cells(*region) {
+                self.grid.get_packed_mut(cell).reset();
+            }
         }
+        self.words.fill(0);
     }
 
     fn set_nodes(&mut self, call: &Call) {

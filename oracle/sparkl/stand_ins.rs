@@ -4,6 +4,7 @@ use std::collections::HashMap;
 use std::fmt;
 use std::mem::{align_of, size_of};
 use std::ops::{Index, IndexMut, Range};
+use std::slice::{from_raw_parts, from_raw_parts_mut};
 
 /// For `log::info!`: its arguments are looked at by the compiler and then dropped.
 macro_rules! info {
@@ -208,19 +209,21 @@ pub mod core {
 /// For `memmap2::MmapMut`: zeroed memory that is never larger than was asked for, as a fresh anonymous map is, or that has a page
 /// wherever one was touched. A grid of the latter kind reaches every id, which takes more than a machine lets one map.
 pub enum MmapMut {
-    Whole(Vec<u8>),
+    /// Pages that lie one behind the other, and how many bytes of them were asked for.
+    Whole(Vec<Page>, usize),
     Sparse(HashMap<usize, Box<Page>>),
 }
 
-/// As much as a region of the grid takes, and placed as a page of a map is as far as any node can tell.
-#[repr(align(64))]
+/// As much as a region of the grid takes, and placed as a page of a map is.
+#[derive(Clone)]
+#[repr(C, align(4096))]
 pub struct Page([u8; PAGE]);
 
 const PAGE: usize = 1 << 12;
 
 impl MmapMut {
     pub fn map_anon(length: usize) -> Result<Self> {
-        Ok(MmapMut::Whole(vec![0; length]))
+        Ok(MmapMut::Whole(vec![Page([0; PAGE]); (length + PAGE - 1) / PAGE], length))
     }
 
     pub fn sparse() -> Self {
@@ -231,7 +234,7 @@ impl MmapMut {
     #[allow(clippy::len_without_is_empty)]
     pub fn len(&self) -> usize {
         match self {
-            MmapMut::Whole(bytes) => bytes.len(),
+            MmapMut::Whole(_, length) => *length,
             MmapMut::Sparse(_) => usize::MAX,
         }
     }
@@ -244,8 +247,12 @@ impl Index<Range<usize>> for MmapMut {
     #[inline(always)]
     fn index(&self, range: Range<usize>) -> &[u8] {
         match self {
-            MmapMut::Whole(bytes) => &bytes[range],
-            MmapMut::Sparse(pages) => &pages[&(range.start / PAGE)].0[within(range)],
+            MmapMut::Whole(pages, length) => {
+                // Sound: so many bytes are in these pages, one behind the other.
+                let bytes = unsafe { from_raw_parts(pages.as_ptr() as *const u8, *length) };
+                &bytes[range]
+            }
+            MmapMut::Sparse(pages) => written(pages, range),
         }
     }
 }
@@ -254,13 +261,23 @@ impl IndexMut<Range<usize>> for MmapMut {
     #[inline(always)]
     fn index_mut(&mut self, range: Range<usize>) -> &mut [u8] {
         match self {
-            MmapMut::Whole(bytes) => &mut bytes[range],
+            MmapMut::Whole(pages, length) => {
+                // Sound: as above.
+                let bytes = unsafe { from_raw_parts_mut(pages.as_mut_ptr() as *mut u8, *length) };
+                &mut bytes[range]
+            }
             MmapMut::Sparse(pages) => touched(pages, range),
         }
     }
 }
 
-/// Kept out of the way of a whole map, which is the one that is timed.
+/// Kept out of the way of a whole map, which is the one that is timed; and so is the next.
+#[cold]
+#[inline(never)]
+fn written(pages: &HashMap<usize, Box<Page>>, range: Range<usize>) -> &[u8] {
+    &pages[&(range.start / PAGE)].0[within(range)]
+}
+
 #[cold]
 #[inline(never)]
 fn touched(pages: &mut HashMap<usize, Box<Page>>, range: Range<usize>) -> &mut [u8] {
