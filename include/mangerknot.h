@@ -20,7 +20,8 @@
  *   - floats are computed in the mode that a program starts in: to nearest, subnormal numbers kept, no traps. Code that changes it (MXCSR,
  *     fesetround, feenableexcept, a program linked by -ffast-math) gets other answers or traps;
  *   - the answer is looked at: a refused call has done nothing.
- * The compiler passes the place of a long answer by a pointer of its own making, which is right where the caller includes this file.
+ * Structs are handed over and answered as C has it on x86-64 Linux (the System V convention), which a C or C++ compiler sees to; whoever
+ * calls from another language has to declare these structs with the same fields in the same order.
  *
  * Floats: every NaN is taken, and an answered NaN may have any NaN's pattern; mk_to_bits gives every NaN the pattern 7FC00000. Lent
  * NaNs keep their patterns where a call refuses: that is tested and not proved.
@@ -102,7 +103,7 @@ enum {
     MK_PARTICLE_VELOCITY_GRADIENT_01 = 5,
     MK_PARTICLE_VELOCITY_GRADIENT_10 = 6,
     MK_PARTICLE_VELOCITY_GRADIENT_11 = 7,
-    MK_PARTICLE_STRESS_00 = 8,                  /* the host's model's; no call writes it */
+    MK_PARTICLE_STRESS_00 = 8,                  /* the host's model's, over the initial volume (Kirchhoff's), above 0 where it pulls; no call writes it */
     MK_PARTICLE_STRESS_01 = 9,
     MK_PARTICLE_STRESS_10 = 10,
     MK_PARTICLE_STRESS_11 = 11,
@@ -127,7 +128,7 @@ enum {
     MK_PARTICLE_WORD_FAILED = 0,    /* its stress and psi reach no node */
     MK_PARTICLE_WORD_KINEMATIC = 1, /* it moves by its kinematic velocity, whatever the nodes have */
     MK_PARTICLE_WORD_FLUID = 2,     /* a fluid; else a solid */
-    MK_PARTICLE_WORD_IS_STATIC = 3  /* the second half of gather stills it */
+    MK_PARTICLE_WORD_IS_STATIC = 3  /* the second half of gather stills it; the first half still moves it by what the nodes have */
 };
 
 /* Where the fields of a collider, of a projection, and of what is given of a particle stand. All floats have to be finite, words 0 or 1. */
@@ -178,13 +179,19 @@ enum {
      */
     MK_REFUSED_SETTING = 3,
     /*
-     * With index 0: a place is no region's, boundary handling or locks are above 3, modified eigenerosion is neither 0 nor 1. With the
-     * index of the entry: an entry of an order is no region's place, is named again, or is of a lower colour than the one before it.
-     * After these, with the particle's index: one of its words is neither 0 nor 1, and after these, of what is given of a particle. After
-     * these, with the projection's index: its word is. The functions of lengths say what it is to them.
+     * A code, flag or place is out of range. Looked for in this order:
+     *   - a place is no region's, boundary handling or locks are above 3, modified eigenerosion is above 1: index 0;
+     *   - an entry of an order is no region's place, is named again, or has a lower colour than the entry before it: the entry's index;
+     *   - one of a particle's words is above 1: the particle's index;
+     *   - the word of what is given of a particle is above 1: the particle's index;
+     *   - a projection's word is above 1: the projection's index.
+     * The functions of lengths say what it is to them.
      */
     MK_REFUSED_CODE = 4,
-    /* A float is a NaN or infinite: of a particle; after these, of what is given of a particle, or of a collider; then of a projection. */
+    /*
+     * A float is a NaN or infinite: of a particle, then of what is given of a particle or of a collider, then of a projection. The index is
+     * that record's, of what is given the particle's.
+     */
     MK_REFUSED_NOT_FINITE = 5,
     /* A region's id is not above the one before it, or has one of its low 12 bits set. */
     MK_REFUSED_REGION_IDS = 6,
@@ -421,6 +428,11 @@ mk_refusal mk_clear2(size_t regions, const uint64_t *ids, size_t ids_len, float 
  * to 3, in each by regions as listed, in each by particles, in each by the stencil's order. A node that no particle reaches keeps every
  * bit. A result that overflows is stored as it is.
  *
+ * Of a particle with mass m, velocity v, velocity gradient G, stress S (zero where it failed) and initial volume V0, a node that has the
+ * weight w and lies at dpt from it gets, with A = m G - ((V0 mk_inv_d(cell_width)) dt) S: mass + w m; momentum + w (A dpt + m v); psi
+ * mass + w k and psi momentum + w (k psi), where k is m if phase is above 0, the crack factor not 0 and the particle not failed, else 0.
+ * Then its velocity is (momentum + (mass gravity) dt) mk_inv_exact(mass).
+ *
  * particle_floats has 26 entries for each particle and particle_words 4, as MK_PARTICLE_POSITION_X and those behind it say. ranges has two
  * entries for each region, its start and its count: the particles of a region lie together, regions in the order of their ids. Nodes are
  * as in mk_clear2, and read as they are. Refuses 1 to 10, in 4 the particles' words alone.
@@ -461,10 +473,15 @@ mk_refusal mk_scatter_in_order2(const uint64_t *order, size_t order_len, float c
  * read as they are. Refuses 1 to 6.
  *
  * Every node of every listed region: locked axes of momentum and velocity become 0; then, collider by collider, a flag of 0 becomes 1
- * where the centre is inside, and the velocity is handled. Stick makes it 0 inside. Both frictions act alike, on a velocity that goes
- * towards the collider: where the centre is inside, or no farther from the point than a cell's width, only the part along the
- * surface is left, less friction; where it is farther, so much of the velocity as is left to go in dt. What is not computed keeps every
- * bit, and a result that overflows is stored as it is.
+ * where the centre is inside, and the velocity v is handled. Stick makes it 0 inside. Both frictions act alike. With e the vector from the
+ * point to the centre, n its length, and N = e / n, turned round inside, so that N points out of the collider, and s the part of v
+ * along N:
+ *   - nothing where e is no longer than about 1.0e-5, which has no direction, or where s is not below 0: v does not go towards the collider;
+ *   - inside, or where n is at most the cell width: only the part along the surface is left, t = v - s N, and if its length is above 1.0e-10
+ *     it is shortened by friction times -s, at most to 0;
+ *   - outside and farther: where v would come nearer than the cell width within dt, its part along N is so much that it comes just there
+ *     (v - ((n - cell_width) / dt + s) N); the part along the surface stays.
+ * What is not computed keeps every bit, and a result that overflows is stored as it is.
  */
 mk_refusal mk_grid_update2(float cell_width, float dt, uint32_t boundary_handling, uint32_t simulation_dofs, size_t regions,
                            const uint64_t *ids, size_t ids_len, size_t colliders, const float *collider_floats,
@@ -586,7 +603,8 @@ float mk_min_dt(float total, uint32_t max_num_substeps);
 /*
  * Writes the answer to a whole listing to the front of out, and answers how many bytes it has. Where out is too short for all of it,
  * nothing is written and 0 is answered; no answer has 0 bytes, and none more than MK_LISTING_BYTES. Bytes of out behind the answer are as
- * they were, and no NUL is put there. text may have any bytes, NULs too, and need not end with one.
+ * they were, and no NUL is put there. text may have any bytes, NULs too, and need not end with one. It is the one function that wants much
+ * of the stack, some 160,000 bytes; where a thread has less, the program ends at the stack's guard page, and no other memory is touched.
  *
  * A listing is lines of fields with single tabs between them, each ended by a line feed; floats are 8 upper case hex digits of their bits,
  * other numbers decimal, below 2^64, without leading zeros. One line `w` cell_width dt gravity_x gravity_y; then for each region `r` id

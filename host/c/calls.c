@@ -373,7 +373,7 @@ static void gathers(void) {
     EXPECT(done.number == MK_DONE && done.index == 0);
     EXPECT(gathered_flags[MK_PARTICLE_WORD_FAILED] == 1 && gathered_flags[MK_PARTICLE_WORD_KINEMATIC] == 0 && memcmp(gathered +
            MK_PARTICLE_DEFORMATION_GRADIENT_00, identity, sizeof identity) == 0);
-    EXPECT(gathered[MK_PARTICLE_VELOCITY_X] == 1 && gathered[MK_PARTICLE_PHASE] == 0 && gathered[NODE_WORDS] == 3 &&
+    EXPECT(gathered[MK_PARTICLE_VELOCITY_X] == 1 && gathered[MK_PARTICLE_PHASE] == 0 && gathered[MK_PARTICLE_PSI_POS] == 3 &&
            gathered[MK_PARTICLE_PARAMETER1] == 192 && gathered[MK_PARTICLE_PARAMETER2] == 64);
 }
 

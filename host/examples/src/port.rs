@@ -29,10 +29,9 @@ impl Solver for Port {
         let updated = sample.clear()?.scatter(DT, GRAVITY)?.update(&cup)?;
         let mass = updated.node_mass();
 
-        let mut moved = updated.gather_first_half(false)?;
-        moved.rewrite_deformation_gradients(|_, grain| POWDER.yielded(grain.deformation_gradient));
-        let given = vec![POWDER_SAYS; moved.len()];
-        moved.gather_second_half(&given)?;
+        let given = vec![POWDER_SAYS; updated.len()];
+        let moved = updated.gather_first_half(false)?;
+        moved.rewrite_deformation_gradients(|_, grain| POWDER.yielded(grain.deformation_gradient)).gather_second_half(&given)?;
         Ok(mass)
     }
 

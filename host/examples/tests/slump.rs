@@ -46,8 +46,8 @@ fn shared() -> Arc<Run> {
     RUN.lock().expect("nothing is refused").get_or_insert_with(|| Arc::new(run())).clone()
 }
 
-fn bits(grains: &[Particle]) -> Vec<[u32; 26]> {
-    grains.iter().map(|grain| grain.floats().map(f32::to_bits)).collect()
+fn bits(grains: &[Particle]) -> Vec<([u32; 26], [u32; 4])> {
+    grains.iter().map(|grain| (grain.floats().map(f32::to_bits), grain.words())).collect()
 }
 
 #[test]

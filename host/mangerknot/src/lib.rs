@@ -21,8 +21,8 @@
 //! assert_eq!((mass(3, 3), mass(4, 0)), (Some(0.0), None)); // not reached, and not listed
 //!
 //! let updated = scattered.update(&Boundary::none())?;
-//! let mut moved = updated.gather_first_half(false)?;
-//! moved.rewrite_deformation_gradients(|_, particle| particle.deformation_gradient); // a plastic model's place
+//! let moved = updated.gather_first_half(false)?;
+//! let moved = moved.rewrite_deformation_gradients(|_, particle| particle.deformation_gradient); // a plastic model's place
 //! let given = [ModelAnswer { density: 1.0, energy: 5.0, failed: false }];
 //! moved.gather_second_half(&given)?;
 //! sample.sort()?; // it may be in another region now
@@ -55,7 +55,7 @@ mod sample;
 pub mod sp_grid;
 
 pub use records::{Handling, Matrix, ModelAnswer, Node, Particle, Projection, IDENTITY};
-pub use refused::Refused;
+pub use refused::{Refused, Rule};
 pub use sample::{color2, Boundary, ByRegions, Cleared, Moved, Sample, Scattered, Updated};
 
 /// The most regions that a call takes.
@@ -64,6 +64,10 @@ pub const MAX_REGIONS: usize = 512;
 pub const MAX_PARTICLES: usize = 65_536;
 /// The most colliders that a call takes.
 pub const MAX_COLLIDERS: usize = 16;
+/// The first cell, on each axis, that may be nearest to a particle.
+pub const FIRST_CELL: u32 = 1;
+/// The last cell, on each axis, that may be nearest to a particle.
+pub const LAST_CELL: u32 = 65_535;
 /// The least cell width: 2^-20.
 pub const MIN_CELL_WIDTH: f32 = 1.0 / MAX_CELL_WIDTH;
 /// The largest cell width: 2^20.

@@ -8,7 +8,7 @@ use mangerknot_sys as sys;
 pub struct Step {
     /// How long the step is.
     pub total: f32,
-    /// The largest length of a substep.
+    /// The largest that may be proposed; a proposal that is raised to the least length may come out longer.
     pub max_substep_dt: f32,
     /// Makes the least length, [`min_dt`], and bounds no count.
     pub max_num_substeps: u32,
@@ -52,9 +52,15 @@ pub fn min_dt(total: f32, max_num_substeps: u32) -> f32 {
     archive!(mk_min_dt: total max_num_substeps)
 }
 
-/// The lengths of a step from what a host proposes for each substep. Refuses 3, where the total or `max_substep_dt` is not finite; and 4:
-/// where `max_num_substeps` is 0, and after that with a proposal's index where it breaks its rule. There are as many proposals as are
-/// lent, so that a length is never wrong (number 1).
+/// The lengths of a step from what a host proposes for each substep. As long as more than 0 remains, the next proposal is taken. It has to
+/// be above 0, and at most what remains and at most `max_substep_dt`; where it is below the least length, [`min_dt`], and more than that
+/// remains, the substep is that long instead, even beyond `max_substep_dt`. Before each substep the ends are looked at, in their order; so
+/// a single substep that finishes is [`End::Finished`], and proposals behind an end are not looked at. A total of 0 or less remains as it
+/// is, with a count of 0.
+///
+/// Refuses 3, where the total or `max_substep_dt` is not finite (either may be 0 or less); and 4: where `max_num_substeps` is 0, and after
+/// that with a proposal's index where it is not as it has to be, as a NaN is. There are as many proposals as are lent, so that a length is
+/// never wrong (number 1).
 ///
 /// ```
 /// use mangerknot::mls_solver::{step_lengths, End, Step};
@@ -79,8 +85,9 @@ pub fn step_lengths(step: &Step, proposals: &[f32]) -> Result<Lengths, Refused> 
     }
 }
 
-/// One such substep, for a host who proposes one at a time: of what remains, the least length, the largest and the proposal. Refuses 3,
-/// where one of the first three is not finite, and 4, where the proposal breaks its rule.
+/// One such substep, for a host who proposes one at a time: of what remains, the least length, `max_substep_dt` and the proposal. A loop of
+/// these over what is left each time, as long as that is above 0, leaves what [`step_lengths`] answers. Refuses 3, where one of the first
+/// three is not finite, and 4, where the proposal is not as it has to be; so it is 4 where nothing remains.
 ///
 /// ```
 /// use mangerknot::mls_solver::{min_dt, substep};

@@ -34,7 +34,7 @@ pub struct Particle {
     pub velocity: [f32; 2],
     /// The gradient of its velocity.
     pub velocity_gradient: Matrix,
-    /// Its stress, which the host's law sets before a scatter.
+    /// Its stress, which the host's law sets before a scatter: over the initial volume (Kirchhoff's), above 0 where it pulls.
     pub stress: Matrix,
     /// Its mass.
     pub mass: f32,
@@ -62,7 +62,7 @@ pub struct Particle {
     pub kinematic: bool,
     /// Whether it is a fluid; else it is a solid.
     pub fluid: bool,
-    /// Whether its velocity is set to 0 in the second half of gather.
+    /// Whether its velocity is set to 0 in the second half of gather; the first half still moves it by what the nodes have.
     pub is_static: bool,
 }
 
@@ -200,13 +200,16 @@ pub struct ModelAnswer {
 }
 
 /// How boundaries are handled.
-#[derive(Clone, Copy, Debug, PartialEq, Eq)]
+#[derive(Clone, Copy, Debug, Default, PartialEq, Eq)]
 pub enum Handling {
     /// Not at all; only flags are set.
+    #[default]
     None,
     /// No velocity inside a collider.
     Stick,
-    /// No velocity into a collider, and less along it.
+    /// No velocity into a collider, and less along it: inside, and outside up to a cell's width from its surface. Farther out, a velocity
+    /// that would come nearer than that within dt is slowed so that it comes just there. Nothing happens where centre and point are no
+    /// more than about 1.0e-5 apart, since there is no direction then.
     Friction,
     /// As friction.
     FrictionZUp,

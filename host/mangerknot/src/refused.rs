@@ -6,7 +6,7 @@ use crate::ids::{dim2, region_of};
 use crate::lists::{record, Colliders, Given, Nodes, Particles, REGION_FLOATS};
 use crate::records::{PARTICLE_FIELDS, PARTICLE_FLAGS, PARTICLE_FLOATS, PARTICLE_WORDS, REGION_NODES};
 use crate::sp_grid::{cell_associated_to_point2, lookup};
-use crate::{MAX_CELL_WIDTH, MAX_COLLIDERS, MAX_PARTICLES, MAX_REGIONS, MIN_CELL_WIDTH};
+use crate::{FIRST_CELL, LAST_CELL, MAX_CELL_WIDTH, MAX_COLLIDERS, MAX_PARTICLES, MAX_REGIONS, MIN_CELL_WIDTH};
 use mangerknot_sys::Refusal;
 use std::fmt;
 
@@ -29,9 +29,10 @@ use std::fmt;
 /// | 10 | a particle's stencil reaches a region that is not listed | the particle's |
 ///
 /// ```
-/// use mangerknot::{Particle, Sample};
+/// use mangerknot::{Particle, Rule, Sample};
 /// let refused = Sample::new(1.0, [Particle { position: [1.0, 0.25], ..Particle::default() }]).unwrap_err();
 /// assert_eq!((refused.number, refused.index), (8, 0));
+/// assert_eq!(refused.rule(), Some(Rule::OffGrid));
 /// assert_eq!(refused.to_string(), "particle 0 lies off the grid on y (number 8, index 0)");
 /// ```
 #[derive(Clone, Debug, PartialEq, Eq)]
@@ -52,6 +53,55 @@ impl fmt::Display for Refused {
 }
 
 impl std::error::Error for Refused {}
+
+impl Refused {
+    /// The rule by its name; none of a number that the table does not have, which is never answered.
+    pub fn rule(&self) -> Option<Rule> {
+        Rule::ALL.into_iter().find(|rule| *rule as u32 == self.number)
+    }
+}
+
+/// The rules of the table by their names, which are those of `include/mangerknot.h`; a rule's number is what it is as a `u32`.
+#[derive(Clone, Copy, Debug, PartialEq, Eq, Hash)]
+#[non_exhaustive]
+pub enum Rule {
+    /// A list's length does not match its count.
+    Length = 1,
+    /// More regions, particles or colliders than a call takes.
+    Limit = 2,
+    /// The cell width, dt, gravity or a setting of lengths is not as it has to be.
+    Setting = 3,
+    /// A code, a place, an order, a flag or a proposal is not as it has to be.
+    Code = 4,
+    /// A number of a record is not finite.
+    NotFinite = 5,
+    /// A region's id does not ascend, or is no region's.
+    RegionIds = 6,
+    /// Starts and counts do not cover the particles.
+    Cover = 7,
+    /// A particle lies off the grid.
+    OffGrid = 8,
+    /// A particle's cell is not in its region.
+    OutOfRegion = 9,
+    /// A particle's stencil reaches a region that is not listed.
+    Unlisted = 10,
+}
+
+impl Rule {
+    /// All of them, in the order in which they are looked for.
+    pub const ALL: [Rule; 10] = [
+        Rule::Length,
+        Rule::Limit,
+        Rule::Setting,
+        Rule::Code,
+        Rule::NotFinite,
+        Rule::RegionIds,
+        Rule::Cover,
+        Rule::OffGrid,
+        Rule::OutOfRegion,
+        Rule::Unlisted,
+    ];
+}
 
 /// A code of a call: its name, what it is, and the largest that it may be.
 pub(crate) type Code = (&'static str, u32, u32);
@@ -281,7 +331,7 @@ impl Asked<'_> {
         let place = self.ranges?.chunks_exact(2).position(holds)?;
         let [is, should] = [region_of(cell), *ids.get(place)?];
         Some(format!(
-            "particle {}'s cell is of region {}, and it stands among those of region {} (id {})",
+            "particle {}'s cell is of the region with id {}, and it stands among those of region {} (id {})",
             index, is, place, should
         ))
     }
@@ -289,7 +339,7 @@ impl Asked<'_> {
     fn unlisted(&self, index: usize) -> Option<String> {
         let (ids, cell) = (self.ids?, self.first_cell(index)?);
         let region = dim2::stencil_ids(cell).map(region_of).into_iter().find(|region| lookup(ids, *region).is_none())?;
-        Some(format!("particle {}'s stencil reaches region {}, which is not listed", index, region))
+        Some(format!("particle {}'s stencil reaches the region with id {}, which is not listed", index, region))
     }
 }
 
@@ -311,5 +361,5 @@ pub(crate) fn is_cell_width(width: f32) -> bool {
 
 /// On which axes a point's nearest cell is not from 1 to 65,535.
 pub(crate) fn axes_off_the_grid(cell_width: f32, position: [f32; 2]) -> [bool; 2] {
-    position.map(|x| !(1.0..=65535.0).contains(&round(x / cell_width)))
+    position.map(|x| !(FIRST_CELL as f32..=LAST_CELL as f32).contains(&round(x / cell_width)))
 }

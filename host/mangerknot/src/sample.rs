@@ -23,7 +23,8 @@ use std::ops::Deref;
 ///
 /// A substep goes through types, each of which borrows the sample: [`Cleared`], [`Scattered`] (or [`ByRegions`] on the way),
 /// [`Updated`], [`Moved`]. Each of them is made by the stage before it alone, and is used up by the one behind it; and all of them can
-/// be read as the sample they borrow. A stage that is refused changes nothing, and the borrow ends.
+/// be read as the sample they borrow. A stage that is refused changes nothing, and the borrow ends: the substep begins again with a clear.
+/// Only between the halves of gather, when particles have moved, it need not ([`Sample::moved`]).
 ///
 /// So nothing is scattered onto nodes that were not cleared, and nothing twice:
 ///
@@ -85,18 +86,25 @@ pub struct Boundary {
     pub handling: Handling,
     /// Whether x is locked, and y.
     pub locked: [bool; 2],
-    /// The regions that it was made for.
+    /// The cells that it was made for: their width, and the regions.
+    cell_width: f32,
     ids: Vec<u64>,
     frictions: Vec<f32>,
     points: Vec<f32>,
     insides: Vec<u32>,
 }
 
+impl Default for Boundary {
+    fn default() -> Self {
+        Boundary::none()
+    }
+}
+
 impl Boundary {
     /// No boundary at all.
     pub fn none() -> Boundary {
         let (ids, frictions, points, insides) = (vec![], vec![], vec![], vec![]);
-        Boundary { handling: Handling::None, locked: [false; 2], ids, frictions, points, insides }
+        Boundary { handling: Handling::None, locked: [false; 2], cell_width: 0.0, ids, frictions, points, insides }
     }
 
     /// The same as lists.
@@ -303,10 +311,11 @@ impl Sample {
         frictions: &[f32],
         mut project: impl FnMut(usize, [f32; 2]) -> Projection,
     ) -> Boundary {
-        let mut boundary = Boundary { handling, ids: self.ids.clone(), frictions: frictions.to_vec(), ..Boundary::none() };
+        let (cell_width, ids, frictions) = (self.cell_width, self.ids.clone(), frictions.to_vec());
+        let mut boundary = Boundary { handling, cell_width, ids, frictions, ..Boundary::none() };
         for (cell, _) in self.nodes() {
             let centre = cell_center2(self.cell_width, dim2::pack(cell[0], cell[1]));
-            for collider in 0..frictions.len() {
+            for collider in 0..boundary.frictions.len() {
                 let (point, inside) = project(collider, centre).flat();
                 boundary.points.extend(point);
                 boundary.insides.push(inside);
@@ -315,14 +324,15 @@ impl Sample {
         boundary
     }
 
-    /// Opens a substep: every node becomes empty.
+    /// Opens a substep: every node becomes empty. A substep that was half done ends with that ([`Sample::moved`]).
     pub fn clear(&mut self) -> Result<Cleared<'_>, Refused> {
         clear2(&self.ids, NodesMut { floats: &mut self.node_floats, words: &mut self.node_words })?;
         self.is_moved = false;
         Ok(Cleared { sample: self })
     }
 
-    /// Clear, scatter and update in one, refused for all of theirs together before any is begun.
+    /// Clear, scatter and update in one, refused for all of theirs together before any is begun. A substep that was half done ends with
+    /// that ([`Sample::moved`]).
     pub fn clear_scatter_update(&mut self, dt: f32, gravity: [f32; 2], boundary: &Boundary) -> Result<Updated<'_>, Refused> {
         let colliders = self.fitting(boundary)?;
         self.scattered(dt, gravity, |scatter, nodes| clear_scatter_update2(scatter, colliders, nodes))?;
@@ -331,7 +341,8 @@ impl Sample {
     }
 
     /// Where the second half of gather was refused, or its [`Moved`] was dropped: that again, so that the host can give something else.
-    /// None where a substep is not half done.
+    /// None where a substep is not half done. Until the second half is done, particles have moved and what the models say of them is not
+    /// settled; a clear gives that up. What is given is for the particles as they stand then, after a [`Sample::sort`] in another order.
     ///
     /// ```
     /// use mangerknot::{Boundary, ModelAnswer, Particle, Sample};
@@ -348,10 +359,11 @@ impl Sample {
         self.is_moved.then(|| Moved { sample: self })
     }
 
-    /// The boundary as lists, where it was made for the regions that are listed now; without a collider it fits all.
+    /// The boundary as lists, where it was made for the cells that are listed now; without a collider it fits all.
     fn fitting<'b>(&self, boundary: &'b Boundary) -> Result<Colliders<'b>, Refused> {
-        if !boundary.frictions.is_empty() && boundary.ids != self.ids {
-            let sentence = "the boundary's projections are for other regions than are listed".to_string();
+        let fits = boundary.ids == self.ids && boundary.cell_width == self.cell_width;
+        if !boundary.frictions.is_empty() && !fits {
+            let sentence = "the boundary's projections are for other regions or cells than are listed".to_string();
             return Err(Refused { number: 1, index: 0, sentence });
         }
         Ok(boundary.colliders())
@@ -450,8 +462,9 @@ impl<'a> Cleared<'a> {
 
     /// Scatters the regions in an order of their places: each once, no colour before a lower one. Whatever order that is, the nodes
     /// are the same.
-    pub fn scatter_in_order(self, order: &[u64], dt: f32, gravity: [f32; 2]) -> Result<Scattered<'a>, Refused> {
-        self.sample.scattered(dt, gravity, |scatter, nodes| scatter_in_order2(order, scatter, nodes))?;
+    pub fn scatter_in_order(self, order: &[usize], dt: f32, gravity: [f32; 2]) -> Result<Scattered<'a>, Refused> {
+        let order: Vec<u64> = order.iter().map(|place| *place as u64).collect();
+        self.sample.scattered(dt, gravity, |scatter, nodes| scatter_in_order2(&order, scatter, nodes))?;
         Ok(Scattered { sample: self.sample, dt })
     }
 
@@ -533,13 +546,16 @@ impl<'a> ByRegions<'a> {
         }
     }
 
-    /// All regions have been scattered; else it is refused with 1, and the substep has to be begun again.
+    /// All regions have been scattered; else it is refused with 1, and the substep has to be begun again. Of a sample without regions,
+    /// dt and gravity are looked at here.
     pub fn finish(self) -> Result<Scattered<'a>, Refused> {
-        let ByRegions { sample, dt, order, .. } = self;
-        if order.len() != sample.ids.len() {
-            return Err(Asked { ids: Some(&sample.ids), order: Some(&order), ..Asked::default() }.refused(1, 0));
+        let ByRegions { sample, dt, gravity, order } = self;
+        let asked = Asked { order: Some(&order), ..sample.asked_to_scatter(dt, gravity) };
+        match (order.len() == sample.ids.len(), asked.setting_fault()) {
+            (false, _) => Err(asked.refused(1, 0)),
+            (_, Some(_)) => Err(asked.refused(3, 0)),
+            _ => Ok(Scattered { sample, dt }),
         }
-        Ok(Scattered { sample, dt })
     }
 }
 
@@ -596,11 +612,12 @@ pub struct Moved<'a> {
 
 impl<'a> Moved<'a> {
     /// Gives every particle the deformation gradient that the host says, be it the one it has.
-    pub fn rewrite_deformation_gradients(&mut self, mut rewrite: impl FnMut(usize, &Particle) -> Matrix) {
+    pub fn rewrite_deformation_gradients(self, mut rewrite: impl FnMut(usize, &Particle) -> Matrix) -> Moved<'a> {
         for place in 0..self.sample.len() {
             let [[f00, f01], [f10, f11]] = rewrite(place, &self.sample.read(place));
             self.sample.particle_floats[place * PARTICLE_FLOATS + DEFORMATION..][..4].copy_from_slice(&[f00, f01, f10, f11]);
         }
+        self
     }
 
     /// Settles what the models say of each particle, as they stand, and ends the substep. Where it is refused, [`Sample::moved`] gives

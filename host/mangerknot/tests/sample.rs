@@ -56,14 +56,14 @@ fn boundary(sample: &Sample, call: &Call) -> Boundary {
 /// Clear, scatter and update in one of the ways that there are.
 fn updated<'a>(sample: &'a mut Sample, call: &Call, way: u64, rng: &mut Rng) -> Result<Updated<'a>, Refused> {
     let boundary = boundary(sample, call);
-    let order = order(call, rng);
+    let order: Vec<usize> = order(call, rng).iter().map(|place| *place as usize).collect();
     match way {
         0 => sample.clear_scatter_update(call.dt, call.gravity, &boundary),
         1 => sample.clear()?.scatter(call.dt, call.gravity)?.update(&boundary),
         2 => sample.clear()?.scatter_in_order(&order, call.dt, call.gravity)?.update(&boundary),
         _ => {
             let mut stage = sample.clear()?.by_regions(call.dt, call.gravity);
-            order.iter().try_for_each(|place| stage.scatter_region(*place as usize))?;
+            order.iter().try_for_each(|place| stage.scatter_region(*place))?;
             stage.finish()?.update(&boundary)
         }
     }
@@ -92,9 +92,9 @@ fn gathered<'a>(
     let gather = &substep.call.gather;
     let updated = updated(sample, &substep.call, way, rng)?;
     answers.push(nodes_of(&updated));
-    let mut moved = updated.gather_first_half(gather.eigenerosion == 1)?;
+    let moved = updated.gather_first_half(gather.eigenerosion == 1)?;
     answers.push(particles_of(&moved));
-    moved.rewrite_deformation_gradients(|place, particle| match substep.rewritten[place].map(|bits| bits.map(f32::from_bits)) {
+    let moved = moved.rewrite_deformation_gradients(|place, particle| match substep.rewritten[place].map(|bits| bits.map(f32::from_bits)) {
         Some([f00, f01, f10, f11]) => [[f00, f01], [f10, f11]],
         None => particle.deformation_gradient,
     });
@@ -159,12 +159,15 @@ fn regions_come_in_turn() {
     let wrong = [&[0, 1, 2][..], &[0, 0, 1], &[3, 0, 1], &[0, 2, 2], &[0, 2, 0], &[0, 2], &[]];
     for order in wrong {
         let mut stage = sample.clear().expect("listed").by_regions(0.1, [0.0; 2]);
-        let one_by_one = order.iter().try_for_each(|place| stage.scatter_region(*place as usize));
+        let one_by_one = order.iter().try_for_each(|place| stage.scatter_region(*place));
         let one_by_one = one_by_one.and_then(|()| stage.finish().map(drop)).unwrap_err();
         let at_once = sample.clear().expect("listed").scatter_in_order(order, 0.1, [0.0; 2]).map(drop).unwrap_err();
         assert_eq!(one_by_one, at_once);
     }
+    let mut none = Sample::new(1.0, []).expect("no particle");
     for (dt, gravity) in [(0.0, [0.0; 2]), (1.0, [f32::NAN, 0.0])] {
+        let one_by_one = none.clear().expect("listed").by_regions(dt, gravity).finish().map(drop).unwrap_err();
+        assert_eq!(one_by_one, none.clear().expect("listed").scatter_in_order(&[], dt, gravity).map(drop).unwrap_err());
         let mut stage = sample.clear().expect("listed").by_regions(dt, gravity);
         let one = stage.scatter_region(7).unwrap_err();
         assert_eq!(one, sample.clear().expect("listed").scatter_in_order(&[7, 0, 1], dt, gravity).map(drop).unwrap_err());
@@ -190,7 +193,12 @@ fn what_is_refused_can_be_tried_again() {
     let other = Sample::new(1.0, sample.particles().take(2).chain([elsewhere])).expect("as many regions, and others");
     let other = other.boundary(Handling::Stick, &[0.0], |_, point| Projection::Outside(point));
     let refused = update(&mut sample, &other).unwrap_err();
-    assert_eq!(refused.to_string(), "the boundary's projections are for other regions than are listed (number 1, index 0)");
+    assert_eq!(refused.to_string(), "the boundary's projections are for other regions or cells than are listed (number 1, index 0)");
+    let wider = Sample::new(2.0, sample.particles().map(|particle| Particle { position: particle.position.map(|x| 2.0 * x), ..particle }));
+    let wider = wider.expect("the same regions, of wider cells");
+    assert_eq!(wider.regions().ids, sample.regions().ids);
+    let wider = wider.boundary(Handling::Stick, &[0.0], |_, point| Projection::Outside(point));
+    assert_eq!(update(&mut sample, &wider).unwrap_err(), refused);
     assert_eq!(sample.clear_scatter_update(0.1, [0.0; 2], &other).map(drop).unwrap_err(), refused);
     let bad_point = sample.boundary(Handling::Friction, &[0.0], |_, [x, _]| Projection::Outside([x, f32::NAN]));
     assert_eq!(update(&mut sample, &bad_point).unwrap_err().number, 5);
@@ -256,11 +264,11 @@ fn a_bad_rewrite_is_refused() {
     );
     assert_eq!(
         rewritten(|particle| particle.position[0] = 9.0),
-        refused("particle 1's cell is of region 16384, and it stands among those of region 1 (id 4096) (number 9, index 1)")
+        refused("particle 1's cell is of the region with id 16384, and it stands among those of region 1 (id 4096) (number 9, index 1)")
     );
     assert_eq!(
         rewritten(|particle| particle.position[1] = 3.0),
-        refused("particle 1's stencil reaches region 12288, which is not listed (number 10, index 1)")
+        refused("particle 1's stencil reaches the region with id 12288, which is not listed (number 10, index 1)")
     );
     let mut sample = three();
     sample.particle_floats_mut()[26 + 12] = f32::INFINITY;
