@@ -1,9 +1,9 @@
 //! Memory to lend to a call, of which every word is looked at afterwards. Every test has of this what it needs.
 #![allow(dead_code)]
 
-/// Words that no call may touch, in front of those that are lent and behind them; three of 4 bytes, so that what is lent is
-/// aligned as it has to be and no better.
-const GUARDS: usize = 3;
+/// Words that no call may touch, in front of those that are lent and behind them: more than a region has floats, so that a whole region
+/// written beside the list is seen; and an odd number, so that what is lent is aligned as it has to be and no better.
+const GUARDS: usize = 131;
 
 /// Memory that is lent, between guards, and how it was.
 pub struct Lent<T> {
