@@ -191,6 +191,31 @@ pub struct Written {
     pub left: usize,
 }
 
+impl Written {
+    /// Whether all of this crate's answers are as handed in, and whether there are as many as there have to be.
+    pub fn is_right(&self) -> bool {
+        self.differ == 0 && self.own >= least(self.name)
+    }
+}
+
+/// How many answers of a sheet have to be this crate's at the least, which is few less than are; without shapes some are left.
+fn least(name: &str) -> usize {
+    let [with_shapes, without] = match name {
+        "packing" => [3_200; 2],
+        "numeric" => [19_050; 2],
+        "grid" => [5_900; 2],
+        "scatter" => [950; 2],
+        "update" => [4_590, 65],
+        "gather" => [2_150, 2_110],
+        _ => [1_450, 1_410],
+    };
+    if glue::HAS_SHAPES {
+        with_shapes
+    } else {
+        without
+    }
+}
+
 /// Answers every sheet of the repository.
 pub fn written(repository: &Path) -> io::Result<Vec<Written>> {
     let read = |name: &str| fs::read_to_string(repository.join(name));
@@ -410,7 +435,7 @@ fn substeps_in_a_row(call: &Call, recomputes: bool, seed: u64, count: usize) -> 
     can_all_be_asked.then(|| fields.join("\t"))
 }
 
-/// In a full checkout: writes the answers of all sheets, and says how many are this crate's.
+/// In a full checkout: writes the answers of all sheets, says how many are this crate's, and then holds them to what was handed in.
 #[cfg(all(test, not(feature = "stand-ins")))]
 #[test]
 fn vectors() {
@@ -418,8 +443,11 @@ fn vectors() {
         |name: &str| std::path::PathBuf::from(std::env::var_os(name).unwrap_or_else(|| panic!("{} names a folder", name)));
     let (repository, out) = (folder("MANGERKNOT"), folder("MANGERKNOT_OUT"));
     fs::create_dir_all(&out).expect("a folder for the answers");
-    for Written { name, answers, own, differ, left } in written(&repository).expect("the vectors") {
+    let sheets = written(&repository).expect("the vectors");
+    for Written { name, answers, own, differ, left } in &sheets {
         fs::write(out.join(format!("{}.answers", name)), answers).expect("a file of answers");
         println!("{}: {} answers of this crate, {} of them not as handed in, {} left as they were", name, own, differ, left);
     }
+    let wrong: Vec<&str> = sheets.iter().filter(|sheet| !sheet.is_right()).map(|sheet| sheet.name).collect();
+    assert!(wrong.is_empty(), "not as handed in, or too few of this crate's: {:?}", wrong);
 }
