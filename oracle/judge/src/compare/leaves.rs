@@ -144,20 +144,30 @@ macro_rules! leaves {
 
 fn ids_of_both() -> Vec<Leaf> {
     leaves![
-        mk_masked_add "m0", "HHH", |rng| vec![rng.one_of(&sums_by_mask()).0, any_id(rng), any_id(rng)],
+        mk_masked_add "m0", "HHH", |rng| vec![any_mask(rng), any_id(rng), any_id(rng)],
             |a| vec![unsafe { mk_masked_add(a[0], a[1], a[2]) }], |_, a| vec![masked_sum(a[0], a[1], a[2])];
         mk_region_of "r0", "H", |rng| vec![any_id(rng)],
             |a| vec![unsafe { mk_region_of(a[0]) }], |_, a| vec![a[0] & way_in::REGION_ID_MASK];
     ]
 }
 
-/// The Rust's sum, which it has for some masks.
+/// The Rust's sum of a mask that it was compiled for, else the plain one.
 fn masked_sum(mask: u64, i: u64, j: u64) -> u64 {
     match sums_by_mask().into_iter().find(|(known, _)| *known == mask) {
         Some((_, sum)) => sum(i, j),
-        // A shrunk mask that the Rust was not compiled for is no question.
-        None => unsafe { mk_masked_add(mask, i, j) },
+        None => plain_sum(mask, i, j),
     }
+}
+
+/// A sum inside its mask: with ones in between, every carry goes on to the mask's next bit.
+fn plain_sum(mask: u64, i: u64, j: u64) -> u64 {
+    (i & mask).wrapping_add(j | !mask) & mask
+}
+
+/// A mask that the Rust was compiled for, or any, with many bits or with few.
+fn any_mask(rng: &mut Rng) -> u64 {
+    let (known, any, other) = (rng.one_of(&sums_by_mask()).0, rng.number(), rng.number());
+    rng.one_of(&[known, known, any, any & other, any | other])
 }
 
 /// The functions of one dimension: the Rust, the digit in their letters, the kinds of coordinates without and with a sign, the coordinates'
@@ -600,6 +610,20 @@ mod tests {
                 assert_eq!((leaf.port)(&asked), leaf.judged(&asked), "{}", leaf.written(&asked));
             }
         }
+    }
+
+    #[test]
+    fn the_plain_sum_is_the_rusts_for_each_of_its_masks() {
+        let mut rng = Rng::new(7);
+        let masks = sums_by_mask();
+        assert_eq!(masks.len(), 25);
+        for (mask, sum) in masks.into_iter().flat_map(|known| [known; 1000]) {
+            let [i, j] = [0; 2].map(|_| any_id(&mut rng));
+            assert_eq!(plain_sum(mask, i, j), sum(i, j), "{:X} {:X} {:X}", mask, i, j);
+        }
+        let is_known = |mask: &u64| sums_by_mask().iter().any(|(known, _)| known == mask);
+        let asked: Vec<u64> = (0..1000).map(|_| any_mask(&mut rng)).collect();
+        assert!((300..500).contains(&asked.iter().filter(|mask| is_known(mask)).count()));
     }
 
     #[test]
