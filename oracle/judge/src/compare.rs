@@ -122,7 +122,10 @@ impl Judge {
         let faults = Faults::of(&call);
         for kind in KINDS {
             self.take(Asked::any(kind, &call, rng));
-            (0..DAMAGED).for_each(|_| self.take(faults.damaged(kind, &call, rng)));
+            for _ in 0..DAMAGED {
+                let good = Asked::any(kind, &call, rng);
+                self.take(faults.damaged(&good, rng));
+            }
         }
     }
 

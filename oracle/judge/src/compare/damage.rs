@@ -6,6 +6,9 @@ use oracle::vectors::faults;
 use samples::lines::{length, Edit};
 use samples::{plane, Call, Rng, PARTICLE_FLOATS, PARTICLE_WORDS};
 
+/// How often a call is changed anew that is still the good one.
+const TRIES: usize = 50;
+
 /// Changes of a call that break rules, whoever is given what they change.
 pub struct Faults(Vec<Vec<Edit>>);
 
@@ -19,14 +22,19 @@ impl Faults {
         Faults(found)
     }
 
-    /// The call of that kind with some of them, or with changes anywhere, or with both.
-    pub fn damaged(&self, kind: Kind, call: &Call, rng: &mut Rng) -> Asked {
-        let mut asked = Asked::any(kind, call, rng);
-        let many = 2 + rng.below(4);
+    /// The call with some of them, or with changes anywhere, or with both: another call than it was.
+    pub fn damaged(&self, good: &Asked, rng: &mut Rng) -> Asked {
+        (0..TRIES).map(|_| self.changed(good, rng)).find(|asked| asked != good).expect("one of so many changes something")
+    }
+
+    /// The call with changes, some of which have what was there already.
+    fn changed(&self, good: &Asked, rng: &mut Rng) -> Asked {
+        let (mut asked, kind) = (good.clone(), good.kind);
+        let (several, many) = (2 + rng.below(3), 2 + rng.below(4));
         let edits = match rng.below(8) {
-            0 | 1 => self.one(rng).to_vec(),
-            2 => faults::together(&self.0, rng),
-            3 => [self.one(rng), &anywhere(&mut asked, 1, rng)].concat(),
+            0 | 1 => self.one(kind, rng),
+            2 => (0..several).flat_map(|_| self.one(kind, rng)).collect(),
+            3 => [self.one(kind, rng), anywhere(&mut asked, 1, rng)].concat(),
             4 => anywhere(&mut asked, 1, rng),
             5 => anywhere(&mut asked, many, rng),
             other => {
@@ -34,19 +42,25 @@ impl Faults {
                 anywhere(&mut asked, other - 6, rng)
             }
         };
-        asked.call = asked.call.edited(&in_order(edits, kind));
+        asked.call = asked.call.edited(&in_order(edits));
         misplace(&mut asked, rng);
         asked
     }
 
-    fn one(&self, rng: &mut Rng) -> &[Edit] {
-        &self.0[rng.below(self.0.len() as u64) as usize]
+    /// One that changes something of what such a call is given, and of that alone.
+    fn one(&self, kind: Kind, rng: &mut Rng) -> Vec<Edit> {
+        loop {
+            let fault = &self.0[rng.below(self.0.len() as u64) as usize];
+            let given: Vec<Edit> = fault.iter().filter(|edit| kind.given().contains(edit.letter())).cloned().collect();
+            if !given.is_empty() {
+                return given;
+            }
+        }
     }
 }
 
-/// Those of what such a call is given; lengths come last, so that every entry is there when it is changed.
-fn in_order(mut edits: Vec<Edit>, kind: Kind) -> Vec<Edit> {
-    edits.retain(|edit| kind.given().contains(edit.letter()));
+/// Lengths come last, so that every entry is there when it is changed.
+fn in_order(mut edits: Vec<Edit>) -> Vec<Edit> {
     edits.sort_by_key(|edit| matches!(edit, Edit::Length(..)));
     edits
 }
@@ -190,9 +204,9 @@ mod tests {
     use super::super::stages::KINDS;
     use super::*;
     use samples::random::{bounded, gathered, Style};
-    use std::collections::BTreeMap;
+    use std::collections::{BTreeMap, BTreeSet};
 
-    /// Of every kind some are done, and every number of its own is answered; none that it cannot answer.
+    /// Each is another call than it was. Of every kind some are done, and every number of its own is answered; none that it cannot answer.
     #[test]
     fn damaged_calls_are_refused_for_everything() {
         let mut rng = Rng::new(6);
@@ -202,7 +216,10 @@ mod tests {
             let call = gathered(bounded(call, 2, &mut rng), &mut rng);
             let faults = Faults::of(&call);
             for kind in KINDS.iter().flat_map(|kind| [*kind; 25]) {
-                let number = faults.damaged(kind, &call, &mut rng).judged().refusal.0;
+                let good = Asked::any(kind, &call, &mut rng);
+                let asked = faults.damaged(&good, &mut rng);
+                assert_ne!(asked, good);
+                let number = asked.judged().refusal.0;
                 numbers.entry(kind.name()).or_insert_with(|| vec![0; 11])[number as usize] += 1;
             }
         }
@@ -251,7 +268,17 @@ mod tests {
 
     #[test]
     fn entries_are_changed_before_lengths() {
-        let edits = ["m#0", "m5=7", "b=4"].map(|edit| edit.parse().unwrap()).to_vec();
-        assert_eq!(in_order(edits, Kind::All).iter().map(Edit::to_string).collect::<Vec<_>>(), ["m5=7", "m#0"]);
+        let edits = ["m#0", "m5=7", "b=00000004"].map(|edit| edit.parse().unwrap()).to_vec();
+        assert_eq!(in_order(edits).iter().map(Edit::to_string).collect::<Vec<_>>(), ["m5=7", "b=00000004", "m#0"]);
+    }
+
+    /// What alone is given of a fault is taken of it, and one of which nothing is given is not taken.
+    #[test]
+    fn faults_are_of_what_is_given() {
+        let edits = |fault: &str| fault.split(' ').map(|edit| edit.parse().unwrap()).collect();
+        let (faults, mut rng) = (Faults(["m5=7", "b=4", "f0=7 m#0"].map(edits).to_vec()), Rng::new(8));
+        let mut taken = |kind: Kind| (0..50).map(|_| faults.one(kind, &mut rng)[0].to_string()).collect::<BTreeSet<String>>();
+        assert!(taken(Kind::Clear).into_iter().eq(["m#0", "m5=7"]));
+        assert!(taken(Kind::SecondHalf).into_iter().eq(["f0=7"]));
     }
 }

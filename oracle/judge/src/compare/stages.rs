@@ -452,7 +452,7 @@ mod tests {
             let call = sample(&mut rng);
             let faults = Faults::of(&call);
             for kind in KINDS.iter().flat_map(|kind| [*kind; 20]) {
-                let asked = faults.damaged(kind, &call, &mut rng);
+                let asked = faults.damaged(&Asked::any(kind, &call, &mut rng), &mut rng);
                 let read = Asked::read(asked.written().iter().map(String::as_str)).expect("a call");
                 assert_eq!((read.written(), read.judged().refusal), (asked.written(), asked.judged().refusal));
                 assert_eq!(read.ports().nodes, asked.ports().nodes);
