@@ -7,6 +7,7 @@ mod shrink;
 mod stages;
 mod table;
 
+use crate::watch::Watch;
 use damage::Faults;
 use leaves::Leaf;
 use oracle::vectors::gather::stages as rusts_stages;
@@ -15,6 +16,8 @@ use samples::random::{bounded, gathered, Numbers, Style};
 use samples::substeps::{self, Answer, Stage};
 use samples::{Call, Rng, NODE_FLOATS, PARTICLE_FLOATS, PARTICLE_WORDS};
 use stages::{Asked, Kind, Left, KINDS};
+use std::fmt::Debug;
+use std::rc::Rc;
 use table::Table;
 
 /// What a round has: each function of numbers so often, and once where it is given none; so many steps that no rule refuses; so many calls of
@@ -34,8 +37,17 @@ const ROUNDS_TO_LIMITS: u64 = 200;
 /// Compares rounds of calls until there are so many, and says whether nothing differs and nothing was left out. A round covers all
 /// functions.
 pub fn run(seed: u64, count: u64) -> bool {
-    let mut judge = Judge::new(Box::new(Asked::ports));
+    let watch = Rc::new(Watch::start());
+    let asked = Rc::clone(&watch);
+    let mut judge = Judge::new(Box::new(move |call| {
+        asked.again();
+        call.ports()
+    }));
     for round in 0.. {
+        watch.on(format_args!(
+            "ended in round {} of seed {}: `judge round {1} {0}` prints each of its calls before it is asked",
+            round, seed
+        ));
         judge.round(seed, round);
         if judge.table.calls >= count {
             break;
@@ -45,13 +57,31 @@ pub fn run(seed: u64, count: u64) -> bool {
     judge.table.differ == 0 && judge.table.left_out().is_empty()
 }
 
-/// Asks a call again that was told as the smallest; says whether nothing differs, or nothing where it cannot be read.
+/// A round by itself, with each call printed before it is asked, so that the last is one that does not come back; says whether nothing
+/// differs.
+pub fn round(seed: u64, round: u64) -> bool {
+    let mut judge = Judge { prints: true, ..Judge::new(Box::new(Asked::ports)) };
+    judge.round(seed, round);
+    println!("calls: {}, differences: {}", judge.table.calls, judge.table.differ);
+    judge.table.differ == 0
+}
+
+/// Asks a call again that was printed; says whether nothing differs, or nothing where it cannot be read.
 pub fn replay(told: &str) -> Option<bool> {
+    let name = told.split_whitespace().next()?;
+    if let Some(leaf) = leaves::all().into_iter().find(|leaf| leaf.name == name) {
+        let asked = leaf.read(told)?;
+        let (answer, right) = ((leaf.port)(&asked), leaf.judged(&asked));
+        return Some(replayed(name, &answer, (answer != right).then(|| format!("and not {:X?}", right))));
+    }
     let asked = Asked::read(told.lines())?;
     let (left, right) = (asked.ports(), asked.judged());
-    let difference = asked.difference(&left, &right);
-    println!("{} answers {:?}, {}", asked.kind.name(), left.refusal, difference.as_deref().unwrap_or("and nothing differs"));
-    Some(difference.is_none())
+    Some(replayed(asked.kind.name(), left.refusal, asked.difference(&left, &right)))
+}
+
+fn replayed(name: &str, answer: impl Debug, difference: Option<String>) -> bool {
+    println!("{} answers {:X?}, {}", name, answer, difference.as_deref().unwrap_or("and nothing differs"));
+    difference.is_none()
 }
 
 /// What is asked, who answers of the stages, and what came of it.
@@ -61,11 +91,13 @@ struct Judge {
     table: Table,
     /// What is said of the first difference.
     first: Option<String>,
+    /// Whether each call is printed before it is asked.
+    prints: bool,
 }
 
 impl Judge {
     fn new(ports: Box<dyn Fn(&Asked) -> Left>) -> Judge {
-        Judge { leaves: leaves::all(), ports, table: Table::default(), first: None }
+        Judge { leaves: leaves::all(), ports, table: Table::default(), first: None, prints: false }
     }
 
     /// A round by itself, so that it can be had again without those before it.
@@ -94,6 +126,9 @@ impl Judge {
         let leaf = &self.leaves[place];
         self.table.count(leaf.name, leaf.number(&right));
         self.table.listed += u64::from(leaf.is_listed(&asked));
+        if self.prints {
+            println!("{} is asked:\n{}", leaf.name, leaf.written(&asked));
+        }
         let answer = (leaf.port)(&asked);
         if answer != right {
             self.table.differ += 1;
@@ -153,6 +188,9 @@ impl Judge {
 
     /// Holds what the archive leaves against what has to be left.
     fn hold(&mut self, asked: Asked, right: &Left) -> Left {
+        if self.prints {
+            println!("{} is asked, {}", asked.kind.name(), asked.written().join("\n"));
+        }
         let left = (self.ports)(&asked);
         self.table.count(asked.kind.name(), right.refusal.0);
         if right.refusal.0 == 0 {

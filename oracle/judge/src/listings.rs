@@ -1,20 +1,16 @@
 //! Damaged bench listings through the archive, in one process, beside the oracle's own answer to each.
 
+use crate::watch::Watch;
 use mangerknot_sys::mk_bench;
 use oracle::listing::printed;
 use samples::damage::{damaged, good};
 use samples::listing::{pieces, split};
 use samples::Rng;
 use std::collections::BTreeMap;
-use std::sync::{Arc, Mutex};
-use std::thread;
-use std::time::{Duration, Instant};
+use std::time::Instant;
 
 /// A good listing is asked too, beside every so many damaged ones.
 const GOOD: u64 = 8;
-
-/// A text that is not answered by then never is.
-pub const LIMIT: Duration = Duration::from_secs(60);
 
 /// What stands behind the room for an answer, and in it before.
 const GUARD: usize = 16;
@@ -31,7 +27,7 @@ pub fn run(seed: u64, count: u64) -> bool {
     let watch = Watch::start();
     let archive = |text: &[u8], out: &mut [u8]| unsafe { mk_bench(text.as_ptr(), text.len(), out.as_mut_ptr(), out.len()) };
     judged("through the archive, in room enough and in too little", seed, count, &mut |text, sample| {
-        watch.on(text);
+        watch.on(format_args!("ended in sample {} of seed {}, on the text {}", sample, seed, pieces(text).join(" ")));
         in_rooms(text, sample, &archive)
     })
 }
@@ -163,29 +159,6 @@ fn reduced<T: Clone>(mut list: Vec<T>, is_wrong: &mut dyn FnMut(&[T]) -> bool) -
             1 => (),
             _ => size /= 2,
         }
-    }
-}
-
-/// Ends this process where a text takes too long, and prints it: nothing else can end a call that does not.
-struct Watch(Arc<Mutex<(Instant, Vec<u8>)>>);
-
-impl Watch {
-    fn start() -> Watch {
-        let on = Arc::new(Mutex::new((Instant::now(), vec![])));
-        let seen = Arc::clone(&on);
-        thread::spawn(move || loop {
-            thread::sleep(Duration::from_secs(1));
-            let (since, text) = &*seen.lock().expect("the other side does not stop");
-            if since.elapsed() > LIMIT {
-                println!("no answer after {} s: {}", LIMIT.as_secs(), pieces(text).join(" "));
-                std::process::exit(1);
-            }
-        });
-        Watch(on)
-    }
-
-    fn on(&self, text: &[u8]) {
-        *self.0.lock().expect("the other side does not stop") = (Instant::now(), text.to_vec());
     }
 }
 

@@ -3,7 +3,8 @@
 //!     judge compare SEED COUNT     so many random and adversarial calls of all functions, whole substeps in chains among them, and a few
 //!                                  more to the end of a round; counts by function and by number; the smallest call that differs, if
 //!                                  any, in the vectors' fields; status 1 where something differs or a function was left out
-//!     judge replay                 such a call once more, from its lines on standard input; status 1 where it differs
+//!     judge round SEED ROUND       one round of these by itself, each call printed before it is asked; status 1 where something differs
+//!     judge replay                 a call that was printed once more, from its lines on standard input; status 1 where it differs
 //!     judge listings SEED COUNT    so many damaged bench listings, and good ones among them, in one process: text in, text out; status 1 at the
 //!                                  first answer that is not the oracle's, in room enough and in too little
 //!     judge program SEED COUNT FILE WORDS..   the same through a program, a process each: what it prints, its status, and that it ends
@@ -12,6 +13,8 @@
 //!     judge once SIDE TASK PARTICLES   one row of that table on one side, once, for a program that counts instructions
 //!     judge slump [SUBSTEPS]       the powder column of host/examples under its host's law, so many substeps or all; status 1 where a
 //!                                  particle differs after any of them
+//!
+//! Should the archive crash in `compare` or `listings`, or not answer within a minute, the last line says where that was.
 //!
 //! Any NaN equals any NaN in a node that is hit or moved and in a particle that is; the others keep every bit. Status 2 where the words are
 //! wrong.
@@ -29,6 +32,7 @@ mod program;
 mod replay;
 mod slump;
 mod time;
+mod watch;
 
 use std::io::Read;
 use std::process::ExitCode;
@@ -38,6 +42,7 @@ fn main() -> ExitCode {
     let words: Vec<&str> = arguments.iter().map(String::as_str).collect();
     let done = match words[..] {
         ["compare", seed, count] => numbers(seed, count).map(|(seed, count)| compare::run(seed, count)),
+        ["round", seed, round] => numbers(seed, round).map(|(seed, round)| compare::round(seed, round)),
         ["replay"] => input().and_then(|told| compare::replay(&told)),
         ["listings", seed, count] => numbers(seed, count).map(|(seed, count)| listings::run(seed, count)),
         ["program", seed, count, file, ref words @ ..] => {
@@ -55,8 +60,8 @@ fn main() -> ExitCode {
         Some(false) => ExitCode::FAILURE,
         None => {
             eprintln!(
-                "judge compare SEED COUNT, replay with a call's lines, listings SEED COUNT, program SEED COUNT FILE WORDS.., \
-                 time [REPETITIONS above 0], once SIDE TASK PARTICLES, or slump [SUBSTEPS above 0]"
+                "judge compare SEED COUNT, round SEED ROUND, replay with a call's lines, listings SEED COUNT, \
+                 program SEED COUNT FILE WORDS.., time [REPETITIONS above 0], once SIDE TASK PARTICLES, or slump [SUBSTEPS above 0]"
             );
             ExitCode::from(2)
         }

@@ -1,6 +1,7 @@
 //! Damaged bench listings through a program, a process each: what it prints, its status, and that it ends.
 
-use crate::listings::{judged, LIMIT};
+use crate::listings::judged;
+use crate::watch::LIMIT;
 use samples::listing::pieces;
 use std::io::{Read, Write};
 use std::process::{Child, Command, Stdio};

@@ -63,12 +63,33 @@ impl Leaf {
 
     /// The question in the vectors' fields. A list to look up in has a line of its own.
     pub fn written(&self, asked: &[u64]) -> String {
-        let kinds = self.kinds.chars().chain(self.kinds.chars().last().into_iter().cycle());
-        let fields: Vec<String> = asked.iter().zip(kinds).map(|(number, kind)| field(*number, kind)).collect();
+        let fields: Vec<String> = asked.iter().zip(self.all_kinds()).map(|(number, kind)| field(*number, kind)).collect();
         match self.letter {
             "l" => format!("g\t0\t{}\nl\t0\t{}", fields[1..].join("\t"), fields[0]),
             letter => [&[letter.to_string()], &fields[..]].concat().join("\t"),
         }
+    }
+
+    /// The question that was written behind the last line with a colon at its end; None where it is another.
+    pub fn read(&self, told: &str) -> Option<Vec<u64>> {
+        let lines: Vec<&str> = told.lines().collect();
+        let mut question = lines[lines.iter().rposition(|line| line.ends_with(':'))? + 1..].iter();
+        let mut behind = |first: &str| question.next()?.strip_prefix(first).map(|fields| fields.split('\t'));
+        let fields: Vec<&str> = match self.letter {
+            "l" => {
+                let ids = behind("g\t0")?;
+                behind("l\t0")?.chain(ids).collect()
+            }
+            letter => behind(letter)?.collect(),
+        };
+        let fields = fields.into_iter().filter(|field| !field.is_empty());
+        let asked = fields.zip(self.all_kinds()).map(|(field, kind)| number(field, kind)).collect::<Option<Vec<u64>>>()?;
+        (asked.len() >= self.least).then_some(asked)
+    }
+
+    /// The kind of each number.
+    fn all_kinds(&self) -> impl Iterator<Item = char> {
+        self.kinds.chars().chain(self.kinds.chars().last().into_iter().cycle())
     }
 
     /// The question with less: without an entry of its list, or with a smaller number.
@@ -96,6 +117,13 @@ fn field(number: u64, kind: char) -> String {
         'H' => format!("{:016X}", number),
         'W' => format!("{:08X}", number),
         _ => number.to_string(),
+    }
+}
+
+fn number(field: &str, kind: char) -> Option<u64> {
+    match kind {
+        'H' | 'W' => u64::from_str_radix(field, 16).ok(),
+        _ => field.parse().ok(),
     }
 }
 
@@ -648,6 +676,21 @@ mod tests {
         let step = Step { total: 1.0, ..Step::any(&mut Rng::new(1)).with(&[0.5, 0.25]) };
         let fields: Vec<String> = [vec!["t".to_string()], step.fields()].concat();
         assert_eq!(named("mk_step_lengths").written(&numbers(&step)), fields.join("\t"));
+    }
+
+    #[test]
+    fn what_is_written_is_read_again() {
+        let mut rng = Rng::new(5);
+        for leaf in all() {
+            for _ in 0..20 {
+                let asked = (leaf.make)(&mut rng);
+                let told = |what: &str| format!("{} {}:\n{}\nand more", leaf.name, what, leaf.written(&asked));
+                assert_eq!(leaf.read(&told("is asked")), Some(asked.clone()));
+                assert_eq!(leaf.read(&told("differs; first:\nq\t0\nsmallest")), Some(asked.clone()));
+            }
+        }
+        assert_eq!(named("mk_root").read("mk_root is asked:\nr\t3F800000"), None);
+        assert_eq!(named("mk_max").read("mk_max is asked:\nm\t3F800000"), None);
     }
 
     #[test]
