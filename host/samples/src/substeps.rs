@@ -96,25 +96,33 @@ fn rewriting(rng: &mut Rng) -> Option<[u32; 4]> {
     (rng.below(4) == 0).then(|| matrix.map(f32::to_bits))
 }
 
-/// So many substeps from a call on, or fewer where one is refused or leaves a particle off the grid. `stages` answers a substep's, up to
-/// one that is refused.
-pub fn chain(call: &Call, recomputes: bool, seed: u64, count: usize, mut stages: impl FnMut(&Substep) -> Vec<Answer>) {
-    let mut rng = Rng::new(seed);
-    let mut next = Some(call.clone());
-    for _ in 0..count {
-        let call = match next {
-            Some(call) => call,
-            None => return,
-        };
-        let substep = Substep::of(call, recomputes, &mut rng);
-        next = match stages(&substep).last() {
-            Some(Ok(particles)) => sorted_again(&substep.call.with_particles(particles), &mut rng),
-            _ => None,
-        };
+/// Substeps in a row, from a call on. All that is random about them comes from the seed, so that two who leave the same have the same.
+pub struct Chain {
+    rng: Rng,
+    recomputes: bool,
+    next: Option<Call>,
+}
+
+impl Chain {
+    pub fn new(call: &Call, recomputes: bool, seed: u64) -> Chain {
+        Chain { rng: Rng::new(seed), recomputes, next: Some(call.clone()) }
+    }
+
+    /// The next substep; none behind one that was refused, or that left a particle off the grid.
+    pub fn substep(&mut self) -> Option<Substep> {
+        self.next.take().map(|call| Substep::of(call, self.recomputes, &mut self.rng))
+    }
+
+    /// Goes on from what this substep's stages answered, up to one that is refused.
+    pub fn go_on(&mut self, substep: &Substep, answers: &[Answer]) {
+        if let Some(Ok(particles)) = answers.last() {
+            self.next = sorted_again(&substep.call.with_particles(particles), &mut self.rng);
+        }
     }
 }
 
-/// Such a chain, written down: of each stage number and index and, of one that is done and leaves particles, these.
+/// So many substeps in a row at the most, written down: of each stage number and index and, of one that is done and leaves particles, these.
+/// `stages` answers a substep's, up to one that is refused.
 pub fn run(
     call: &Call,
     recomputes: bool,
@@ -122,17 +130,21 @@ pub fn run(
     count: usize,
     mut stages: impl FnMut(&Substep) -> Vec<Answer>,
 ) -> Vec<String> {
-    let mut fields = vec![];
-    chain(call, recomputes, seed, count, |substep| {
-        let answers = stages(substep);
+    let (mut chain, mut fields) = (Chain::new(call, recomputes, seed), vec![]);
+    for _ in 0..count {
+        let substep = match chain.substep() {
+            Some(substep) => substep,
+            None => break,
+        };
+        let answers = stages(&substep);
         for (stage, answer) in substep.stages().iter().zip(&answers) {
             let (number, index) = answer.as_ref().err().copied().unwrap_or_default();
             fields.extend([number.to_string(), index.to_string()]);
             let particles = answer.iter().filter(|_| stage.leaves_particles());
             fields.extend(particles.flat_map(|(floats, words)| folded(&substep.call.particles_answered((floats, words)))));
         }
-        answers
-    });
+        chain.go_on(&substep, &answers);
+    }
     fields
 }
 
@@ -210,6 +222,26 @@ mod tests {
             vec![Ok((floats, words))]
         });
         assert_eq!(count, 3);
+    }
+
+    /// Two sides that leave the same have the same substeps, and one that leaves something else goes on from that.
+    #[test]
+    fn each_side_goes_on_from_its_own() {
+        let call = Style::plain(1.0, [3, 3], [1, 1], 4).sample(&mut Rng::new(1));
+        let mut sides = [0; 3].map(|_| Chain::new(&call, false, 3));
+        let mut calls = vec![];
+        for place in 0..6 {
+            let side = &mut sides[place % 3];
+            let substep = side.substep().expect("a substep");
+            let mut answers = substep.in_turn(moving);
+            if place == 2 {
+                answers[2].as_mut().expect("particles").0[0] = 7f32.to_bits();
+            }
+            side.go_on(&substep, &answers);
+            calls.push(substep.call);
+        }
+        assert!(calls[0] == calls[1] && calls[0] == calls[2] && calls[3] == calls[4] && calls[3] != calls[5]);
+        assert!((0..4).any(|particle| calls[5].position(particle)[0] == 7.0));
     }
 
     #[test]

@@ -12,8 +12,8 @@ use damage::Faults;
 use leaves::Leaf;
 use oracle::vectors::gather::stages as rusts_stages;
 use samples::lines::Edit;
-use samples::random::{bounded, gathered, Numbers, Style};
-use samples::substeps::{self, Answer, Stage};
+use samples::random::{bounded, gathered, order, Numbers, Style};
+use samples::substeps::{Answer, Chain, Stage};
 use samples::{Call, Rng, NODE_FLOATS, PARTICLE_FLOATS, PARTICLE_WORDS};
 use stages::{Asked, Kind, Left, KINDS};
 use std::fmt::Debug;
@@ -28,8 +28,8 @@ const CALLS: usize = 8;
 const DAMAGED: usize = 4;
 
 /// How many substeps are made in a row, if none is refused and no particle leaves the grid.
-const SUBSTEPS: usize = 3;
-const MANY_SUBSTEPS: usize = 20;
+const SUBSTEPS: u64 = 3;
+const MANY_SUBSTEPS: u64 = 20;
 
 /// A round in so many has calls at the limits, which are large.
 const ROUNDS_TO_LIMITS: u64 = 200;
@@ -211,42 +211,69 @@ impl Judge {
         left
     }
 
-    /// Substeps in a row, whose gather is one call in the Rust.
-    fn take_chain(&mut self, call: &Call, recomputes: bool, seed: u64, count: usize) {
-        let mut length = 0;
-        substeps::chain(call, recomputes, seed, count, |substep| {
-            let answers = rusts_stages(substep);
+    /// Substeps in a row on both sides, each from what it left itself; the Rust's gather is one call.
+    fn take_chain(&mut self, call: &Call, recomputes: bool, seed: u64, count: u64) {
+        let [mut port, mut rust] = [0; 2].map(|_| Chain::new(call, recomputes, seed));
+        let (mut rng, mut length) = (Rng::new(!seed), 0);
+        while length < count {
+            let (ports, rusts) = match (port.substep(), rust.substep()) {
+                (Some(ports), Some(rusts)) => (ports, rusts),
+                _ => break,
+            };
+            let answers = rusts_stages(&rusts);
             let mut right = answers.iter();
-            substep.in_turn(|stage, call| self.take_stage(stage, call, right.next()));
+            let left = ports.in_turn(|stage, call| self.take_stage(stage, call, right.next(), &mut rng));
+            port.go_on(&ports, &left);
+            rust.go_on(&rusts, &answers);
             length += 1;
-            answers
-        });
+        }
         self.table.chains += 1;
         self.table.substeps += length;
         self.table.longest = self.table.longest.max(length);
     }
 
-    /// A stage of such a substep, which is given what the archive left in the one before; nothing more is asked where the Rust went no
-    /// further.
-    fn take_stage(&mut self, stage: Stage, call: &Call, answer: Option<&Answer>) -> Answer {
+    /// A stage of the archive's, in one call or in several of which the last leaves what the Rust's own left; the others are held against
+    /// the Rust by themselves. Nothing more is asked where the Rust went no further.
+    fn take_stage(&mut self, stage: Stage, call: &Call, answer: Option<&Answer>, rng: &mut Rng) -> Answer {
         let answer = answer.ok_or((0, 0))?;
-        let asked = Asked::new(Kind::from(stage), call.clone());
-        let right = match asked.is_listed() {
-            true => asked.judged(),
-            false => asked.answered(answer, stage.leaves_particles()),
-        };
-        self.table.listed += u64::from(asked.is_listed());
-        let left = self.hold(asked, &right);
-        match left.refusal {
-            (0, _) if stage.leaves_particles() => Ok(left.particles),
-            (0, _) => Ok(left.nodes),
-            refusal => Err(refusal),
+        let mut call = call.clone();
+        let mut calls = in_calls(stage, &call, rng).into_iter().peekable();
+        while let Some(Asked { kind, place, order, .. }) = calls.next() {
+            let asked = Asked { place, order, ..Asked::new(kind, call.clone()) };
+            let right = match calls.peek() {
+                Some(_) => asked.judged(),
+                None => asked.answered(answer, stage.leaves_particles()),
+            };
+            let Left { refusal, particles, nodes, .. } = self.hold(asked, &right);
+            match refusal {
+                (0, _) if stage.leaves_particles() => return Ok(particles),
+                (0, _) => (call.node_floats, call.node_words) = nodes,
+                refusal => return Err(refusal),
+            }
         }
+        Ok((call.node_floats, call.node_words))
     }
 }
 
+/// The calls that a stage is made of. Clear, scatter and update are one, or one after the other, and then the scatter is of all regions,
+/// in an order, or region by region.
+fn in_calls(stage: Stage, call: &Call, rng: &mut Rng) -> Vec<Asked> {
+    let of = |kind: Kind| Asked::new(kind, Call::on(vec![]));
+    let way = rng.below(4);
+    if stage != Stage::Sequence || way == 0 {
+        return vec![of(Kind::from(stage))];
+    }
+    let order = order(call, rng);
+    let scatters = match way {
+        1 => vec![of(Kind::All)],
+        2 => vec![Asked { order, ..of(Kind::Order) }],
+        _ => order.into_iter().map(|place| Asked { place, ..of(Kind::Region) }).collect(),
+    };
+    [vec![of(Kind::Clear)], scatters, vec![of(Kind::Update)]].concat()
+}
+
 /// Where a chain begins, and how long it is at the most: slow everyday particles for a long one.
-fn beginning(rng: &mut Rng) -> (Call, usize) {
+fn beginning(rng: &mut Rng) -> (Call, u64) {
     let style = Style::any(rng);
     if rng.below(4) > 0 {
         return (style.sample(rng), SUBSTEPS);
@@ -406,19 +433,38 @@ mod tests {
         assert!(beside.first.expect("a difference").contains("\nm0 is 00000001 and not 00000000"));
     }
 
-    /// Wrong the first time that it is asked, and never again.
+    /// Slow particles on the grid, from which a chain can go on.
+    fn slow(rng: &mut Rng) -> Call {
+        Call { dt: 0.001, ..Style::plain(1.0, [9, 9], [3, 3], 4).sample(rng) }
+    }
+
+    /// A judge whose archive is wrong the first time that such a call is asked, and never again.
+    fn wrong_once(is_such: fn(&Asked) -> bool, wrong: fn(&mut Left)) -> Judge {
+        let was_asked = Cell::new(false);
+        Judge::new(Box::new(move |asked| {
+            let mut left = asked.ports();
+            if is_such(asked) && !was_asked.replace(true) {
+                wrong(&mut left);
+            }
+            left
+        }))
+    }
+
     #[test]
     fn what_differs_once_is_told_as_it_is() {
-        let (asked_once, mut judge) = (Cell::new(false), Judge::new(Box::new(Asked::ports)));
-        judge.ports = Box::new(move |asked| {
-            let mut left = asked.ports();
-            left.is_kept = asked_once.replace(true);
-            left
-        });
-        let call = Call { dt: 0.01, ..Style::plain(1.0, [9, 9], [3, 3], 4).sample(&mut Rng::new(1)) };
-        judge.take_chain(&call, false, 7, 2);
-        assert_eq!((judge.table.differ, judge.table.substeps, judge.table.calls), (1, 2, 6));
-        assert!(judge.first.expect("a difference").starts_with("mk_clear_scatter_update2 differs; in a chain, not by itself"));
+        let mut judge = wrong_once(|_| true, |left| left.is_kept = false);
+        judge.take_chain(&slow(&mut Rng::new(1)), false, 7, 2);
+        assert_eq!((judge.table.differ, judge.table.substeps), (1, 2));
+        assert!(judge.first.expect("a difference").starts_with("mk_clear2 differs; in a chain, not by itself"));
+    }
+
+    /// What is left wrong once is wrong in the next substep too.
+    #[test]
+    fn the_archive_goes_on_with_what_it_left() {
+        let mut judge = wrong_once(|asked| asked.kind == Kind::SecondHalf, |left| left.particles.0[MASS] ^= 1);
+        judge.take_chain(&slow(&mut Rng::new(1)), false, 7, 2);
+        assert!(judge.table.differ > 1 && judge.table.substeps == 2, "{}", judge.table.differ);
+        assert!(judge.first.expect("a difference").contains(&format!("\nf{} is ", MASS)));
     }
 
     /// A first half that overflows ends a substep on both sides, with the second half's number.
@@ -429,10 +475,19 @@ mod tests {
         let huge = Style { numbers: Numbers::Huge, ..Style::plain(1.0, [9, 9], [3, 3], 4) };
         let call = Call { dt: 1.0, ..huge.sample(&mut rng) };
         judge.take_chain(&call, false, 7, 5);
-        assert_eq!((judge.table.differ, judge.table.substeps, judge.table.calls), (0, 1, 3));
-        assert!(judge.table.told(0, "").contains("3, of which 2 are done and 1 refused"));
-        judge.take_chain(&Call { dt: 0.001, ..Style::plain(1.0, [9, 9], [3, 3], 4).sample(&mut rng) }, true, 7, 5);
-        assert_eq!((judge.table.differ, judge.table.longest, judge.table.calls), (0, 5, 3 + 5 * 5));
+        assert_eq!((judge.table.differ, judge.table.substeps), (0, 1));
+        assert!(judge.table.told(0, "").contains(" are done and 1 refused"));
+        judge.take_chain(&slow(&mut rng), true, 7, 5);
+        assert_eq!((judge.table.differ, judge.table.longest), (0, 5));
+    }
+
+    #[test]
+    fn chains_go_every_way() {
+        let mut judge = Judge::new(Box::new(Asked::ports));
+        judge.take_chain(&slow(&mut Rng::new(1)), true, 7, 20);
+        assert_eq!((judge.table.differ, judge.table.substeps), (0, 20));
+        let left_out = judge.table.left_out();
+        assert!(KINDS.iter().all(|kind| !left_out.contains(&kind.name())), "{:?}", left_out);
     }
 
     /// An answer that one stage leaves wrong goes into the next, as it would with a host.
@@ -445,9 +500,8 @@ mod tests {
             }
             left
         }));
-        let call = Call { dt: 0.01, ..Style::plain(1.0, [9, 9], [3, 3], 4).sample(&mut Rng::new(1)) };
-        judge.take_chain(&call, false, 7, 1);
-        assert_eq!((judge.table.differ, judge.table.calls), (2, 3));
+        judge.take_chain(&slow(&mut Rng::new(1)), false, 7, 1);
+        assert_eq!((judge.table.differ, judge.table.substeps), (2, 1));
         assert!(judge.first.expect("a difference").starts_with("mk_grid_to_particle_first_half2 differs; smallest"));
     }
 
