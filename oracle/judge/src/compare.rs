@@ -7,6 +7,7 @@ mod shrink;
 mod stages;
 mod table;
 
+use crate::time;
 use crate::watch::Watch;
 use damage::Faults;
 use leaves::Leaf;
@@ -32,7 +33,7 @@ const SUBSTEPS: u64 = 3;
 const MANY_SUBSTEPS: u64 = 20;
 
 /// A round in so many has calls at the limits, which are large.
-const ROUNDS_TO_LIMITS: u64 = 200;
+const ROUNDS_TO_LIMITS: u64 = 400;
 
 /// Compares rounds of calls until there are so many, and says whether nothing differs and nothing was left out. A round covers all
 /// functions.
@@ -164,7 +165,8 @@ impl Judge {
         }
     }
 
-    /// As many particles, regions and colliders as there may be, and one more.
+    /// As many particles, regions and colliders as there may be, and one more; and particles that fill many regions or all, as they are
+    /// and with late faults.
     fn take_limits(&mut self, rng: &mut Rng) {
         let one = gathered(bounded(Style::plain(0.5, [9, 9], [1, 1], 1).sample(rng), 1, rng), rng);
         let mut calls: Vec<Call> = [65_536, 65_537].map(|count| one.edited(&[Edit::Copies(count)])).to_vec();
@@ -175,7 +177,28 @@ impl Judge {
         }
         calls.extend([16, 17].map(|colliders| bounded(one.clone(), colliders, rng)));
         for call in calls {
-            KINDS.iter().for_each(|kind| self.take(Asked::any(*kind, &call, rng)));
+            self.take_by_all(&call, rng);
+        }
+        for ((particles, regions), most) in time::SIZES.into_iter().skip(1).zip([KINDS.len(), 1]) {
+            let call = full(particles, regions, rng);
+            self.take_by_all(&call, rng);
+            self.take_late_faults(&call, most, rng);
+        }
+    }
+
+    fn take_by_all(&mut self, call: &Call, rng: &mut Rng) {
+        KINDS.iter().for_each(|kind| self.take(Asked::any(*kind, call, rng)));
+    }
+
+    /// Faults of the call's last records, each by so many functions at the most that refuse it.
+    fn take_late_faults(&mut self, call: &Call, most: usize, rng: &mut Rng) {
+        for (needed, edit) in damage::late_faults(call, rng) {
+            let mut kinds: Vec<Kind> = KINDS.into_iter().filter(|kind| kind.given().contains(needed)).collect();
+            rng.shuffle(&mut kinds);
+            for kind in kinds.into_iter().take(most) {
+                let good = Asked::any(kind, call, rng);
+                self.take(Asked { call: good.call.edited(&[edit.clone()]), ..good });
+            }
         }
     }
 
@@ -253,6 +276,13 @@ impl Judge {
         }
         Ok((call.node_floats, call.node_words))
     }
+}
+
+/// So many particles that fill these regions, on nodes that have something, with as many colliders as there may be.
+fn full(particles: usize, regions: [u32; 2], rng: &mut Rng) -> Call {
+    let mut call = gathered(bounded(time::full_call(particles, regions), 16, rng), rng);
+    call.node_floats.iter_mut().for_each(|float| *float = rng.between(-1.0, 1.0).to_bits());
+    call
 }
 
 /// The calls that a stage is made of. Clear, scatter and update are one, or one after the other, and then the scatter is of all regions,
@@ -520,10 +550,11 @@ mod tests {
     fn limits_are_asked_on_both_sides() {
         let mut judge = Judge::new(Box::new(Asked::ports));
         judge.take_limits(&mut Rng::new(1));
-        assert_eq!((judge.table.differ, judge.table.calls), (0, 6 * 9));
         let told = judge.table.told(0, "");
         let sums: Vec<&str> = told.lines().find(|line| line.starts_with("in all")).unwrap().split_whitespace().skip(2).collect();
-        // Two calls are too many for all but those that are given nothing of it, and 17 colliders for two.
-        assert_eq!(sums[..3], ["37", "-", "17"], "{}", told);
+        // Of six calls two are too many for all but those that are given nothing of it, and 17 colliders for two. The large ones are done,
+        // and refused for late flags and floats, and for places by all that have regions for particles, and then by one each.
+        assert_eq!(sums, ["55", "-", "17", "-", "13", "13", "-", "-", "7", "7", "7"], "{}", told);
+        assert_eq!(judge.table.differ, 0);
     }
 }

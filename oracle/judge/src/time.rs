@@ -10,7 +10,7 @@ use sparkl2d::MmapMut;
 use std::time::{Duration, Instant};
 
 /// How many particles, and the regions along x and y; those at the far edges have no particles, since stencils reach beyond a region.
-const SIZES: [(usize, [u32; 2]); 3] = [(1_024, [4, 4]), (8_192, [8, 8]), (65_536, [32, 16])];
+pub(crate) const SIZES: [(usize, [u32; 2]); 3] = [(1_024, [4, 4]), (8_192, [8, 8]), (65_536, [32, 16])];
 /// The colliders' frictions, of which none is so large that a velocity overflows.
 const FRICTIONS: [f32; 4] = [0.0, 0.2, 0.5, 1.0];
 
@@ -203,7 +203,7 @@ fn median(times: &mut [Duration]) -> Duration {
 
 /// A block of regions, filled evenly but for its far edges, with everyday particles, a fourth of them fluid, and points about every cell.
 /// Densities are given as what is not zero, as the Rust finds them by itself.
-fn full_call(particles: usize, [columns, rows]: [u32; 2]) -> Call {
+pub(crate) fn full_call(particles: usize, [columns, rows]: [u32; 2]) -> Call {
     let mut ids: Vec<u64> =
         (0..columns * rows).map(|place| plane::region([4 * (place % columns), 4 * (place / columns)])).collect();
     ids.sort_unstable();

@@ -4,7 +4,7 @@ use super::shrink::{without_collider, without_particle, without_region};
 use super::stages::{Asked, Kind};
 use oracle::vectors::faults;
 use samples::lines::{length, Edit};
-use samples::{plane, Call, Rng, PARTICLE_FLOATS, PARTICLE_WORDS};
+use samples::{plane, Call, Rng, PARTICLE_FLOATS, PARTICLE_WORDS, WRITTEN_NAN};
 
 /// How often a call is changed anew that is still the good one.
 const TRIES: usize = 50;
@@ -199,10 +199,34 @@ fn strange_position(call: &Call, particle: usize, rng: &mut Rng) -> Edit {
     Edit::Entry('f', particle * PARTICLE_FLOATS + axis, u64::from(rng.one_of(&next)))
 }
 
+/// Changes of one of the last records of a list each, with the letter of what a call has to be given to be refused for it: flags (4),
+/// floats (5), and where particles have regions, a place off the grid (8) and in another region (9), and the last region, which
+/// particles of a full call reach, in another place (10).
+pub fn late_faults(call: &Call, rng: &mut Rng) -> Vec<(char, Edit)> {
+    let mut late = |count: usize| count - 1 - rng.below(count as u64 / 8) as usize;
+    let lists = [
+        ('w', call.particle_words.len(), 2),
+        ('q', call.boundary.insides.len(), 2),
+        ('v', call.gather.given_words.len(), 2),
+        ('f', call.particle_floats.len(), WRITTEN_NAN),
+        ('j', call.boundary.points.len(), WRITTEN_NAN),
+        ('g', call.gather.given_floats.len(), WRITTEN_NAN),
+    ];
+    let mut found = lists.map(|(letter, length, entry)| (letter, Edit::Entry(letter, late(length), u64::from(entry)))).to_vec();
+    let particle = late(call.particles as usize);
+    let (axis, last) = (rng.below(2) as usize, call.ids.len() - 1);
+    for place in [0.25 * call.cell_width, call.position(particle)[axis] + 4.0 * call.cell_width] {
+        found.push(('s', Edit::Entry('f', particle * PARTICLE_FLOATS + axis, u64::from(f32::to_bits(place)))));
+    }
+    found.push(('s', Edit::Entry('i', last, call.ids[last] + (4 << 12))));
+    found
+}
+
 #[cfg(test)]
 mod tests {
     use super::super::stages::KINDS;
     use super::*;
+    use crate::time::full_call;
     use samples::random::{bounded, gathered, Style};
     use std::collections::{BTreeMap, BTreeSet};
 
@@ -264,6 +288,23 @@ mod tests {
             numbers,
             nothing
         );
+    }
+
+    /// Each is refused by all that are given it, with its own number, at a record of the last eighth.
+    #[test]
+    fn late_faults_are_refused_late() {
+        let mut rng = Rng::new(9);
+        let call = gathered(bounded(full_call(1_024, [4, 4]), 16, &mut rng), &mut rng);
+        let projections = call.boundary.insides.len();
+        let faults = late_faults(&call, &mut rng);
+        for ((needed, edit), number) in faults.into_iter().zip([4, 4, 4, 5, 5, 5, 8, 9, 10]) {
+            for kind in KINDS.into_iter().filter(|kind| kind.given().contains(needed)) {
+                let good = Asked::any(kind, &call, &mut rng);
+                let (found, index) = Asked { call: good.call.edited(&[edit.clone()]), ..good }.judged().refusal;
+                let count = if "qj".contains(needed) { projections } else { 1_024 };
+                assert!(found == number && index >= count / 8 * 7 && index < count, "{:?}: {} {}", kind, found, index);
+            }
+        }
     }
 
     #[test]
