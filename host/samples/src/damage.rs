@@ -2,8 +2,8 @@
 
 use crate::lines::Edit;
 use crate::listing::{lines, split, Lines, MOST_PARTICLES, MOST_REGIONS};
-use crate::random::Style;
-use crate::{Call, Rng};
+use crate::random::{sorted_again, Style};
+use crate::{Call, Rng, PARTICLE_FLOATS};
 
 /// No floats, as a field; the last few are good ones with a byte too much.
 pub const NO_FLOATS: [&[u8]; 24] = [
@@ -134,7 +134,8 @@ fn shape(rng: &mut Rng) -> Call {
         1 => of_one(rng).edited(&[Edit::Copies(near(MOST_PARTICLES, rng))]),
         2 | 3 => on_more_regions(of_one(rng), near(MOST_REGIONS, rng)),
         4..=7 => of_one(rng).edited(&[Edit::Copies(2 + rng.below(30) as usize)]),
-        8..=19 => Call::on(regions(rng.below(6) as usize)),
+        8 | 9 => full_page(rng),
+        10..=19 => Call::on(regions(rng.below(6) as usize)),
         20..=39 => Style::any(rng).sample(rng),
         40..=59 => on_more_regions(of_one(rng), rng.below(12) as usize),
         _ => {
@@ -143,6 +144,22 @@ fn shape(rng: &mut Rng) -> Call {
                 .sample(rng)
         }
     }
+}
+
+/// As many regions and particles as there may be, 8 by 8 and spread evenly, so that every node gets mass and every line is as long as
+/// coordinates near the ends of the axes make it.
+pub fn full_page(rng: &mut Rng) -> Call {
+    const CORNER: usize = 65_500;
+    let width = rng.one_of(&[1.0, 0.5, 0.3, 3.0]);
+    let mut call = Style::plain(width, [CORNER as u32; 2], [1, 1], MOST_PARTICLES).sample(rng);
+    for (place, floats) in call.particle_floats.chunks_exact_mut(PARTICLE_FLOATS).enumerate() {
+        for (float, step) in floats.iter_mut().zip([place % 16, place / 16]) {
+            // Of 32 cells on an axis the first and the last are reached from the second and from the one before the last.
+            let cell = (CORNER + 1 + 29 * step / 15) as f32 + rng.between(-0.4, 0.4);
+            *float = (cell * width).to_bits();
+        }
+    }
+    sorted_again(&call, rng).expect("places on the grid")
 }
 
 fn of_one(rng: &mut Rng) -> Call {
@@ -488,6 +505,7 @@ fn next_number(text: &mut Vec<u8>, rng: &mut Rng) {
 #[cfg(test)]
 mod tests {
     use super::*;
+    use crate::plane;
     use std::collections::BTreeSet;
 
     #[test]
@@ -541,5 +559,14 @@ mod tests {
         }
         let bytes: usize = texts.iter().map(Vec::len).sum();
         assert!(bytes / texts.len() < 2000, "{} bytes a text", bytes / texts.len());
+    }
+
+    #[test]
+    fn a_full_page_has_every_node() {
+        for call in (0..20).map(|seed| full_page(&mut Rng::new(seed))) {
+            assert_eq!((call.ids.len(), call.particles as usize), (MOST_REGIONS, MOST_PARTICLES));
+            assert!(call.hits(None).into_iter().all(|hit| hit));
+            assert!(call.ids.iter().all(|id| plane::cell_of(*id, 0).iter().all(|part| (65_500..65_532).contains(part))));
+        }
     }
 }

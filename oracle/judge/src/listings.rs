@@ -236,17 +236,19 @@ mod tests {
         assert_eq!(smallest(b"a\nbcd\nef\n", &mut |text| text.contains(&b'c')), b"c");
     }
 
-    /// Texts are the sample's own; every answer there is comes among some thousands, none of them seldom.
+    /// Texts are the sample's own; every answer there is comes among some thousands, none of them seldom, and so do full pages.
     #[test]
     fn every_answer_comes() {
         assert_eq!(texts(1, 8), texts(1, 8));
         assert!(texts(1, 8) != texts(2, 8) && texts(1, 8) != texts(1, 9));
-        let mut tally = Tally::default();
+        let (mut tally, mut full_pages) = (Tally::default(), 0);
         for text in (0..4000).flat_map(|sample| texts(1, sample)) {
-            tally.take(&text, printed(&text).as_bytes());
+            let answer = printed(&text);
+            tally.take(&text, answer.as_bytes());
+            full_pages += usize::from(answer.ends_with("ok\t1024\n"));
         }
         assert!(tally.answers.keys().copied().eq([0].into_iter().chain(2..12)), "{:?}", tally.answers);
-        assert!(tally.answers[&0] > 400 && tally.answers[&11] > 1000, "{:?}", tally.answers);
+        assert!(tally.answers[&0] > 400 && tally.answers[&11] > 1000 && full_pages > 2, "{:?} {}", tally.answers, full_pages);
         assert!(tally.said().starts_with("ok ") && tally.said().contains(", no 2 "), "{}", tally.said());
     }
 }

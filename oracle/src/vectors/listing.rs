@@ -10,7 +10,7 @@ use super::{faults, Sheet, OF_BOTH};
 use crate::listing::printed;
 use crate::rng::{Rng, SEED};
 pub use examples::examples;
-use samples::damage::{changed_bytes, NO_FLOATS, NO_LETTERS, NO_LINES, NO_NUMBERS};
+use samples::damage::{changed_bytes, full_page, NO_FLOATS, NO_LETTERS, NO_LINES, NO_NUMBERS};
 use samples::lines::Edit;
 use samples::listing::{lines, pieces, with_field, with_line, Lines, LISTED_FLOATS, MOST_PARTICLES, MOST_REGIONS};
 use samples::particle::{CRACK_FACTOR, FAILED, GRADIENT, MASS, PHASE, PSI, STRESS, VOLUME};
@@ -174,6 +174,7 @@ impl Listings {
         }
         let dense = Style::plain(0.25, [6, 6], [1, 1], 90).sample(&mut self.rng);
         self.ask_call(&dense);
+        self.ask_call(&full_page(&mut Rng::new(SEED)));
     }
 }
 
@@ -539,7 +540,7 @@ mod tests {
             assert!(![4, 5, 8, 9, 10].contains(number) || different.contains(&255), "{} {:?}", number, different);
             assert!(![6, 7].contains(number) || different.contains(&63), "{} {:?}", number, different);
         }
-        assert!(nodes.len() >= 25 && nodes.contains(&0) && nodes.iter().any(|count| *count > 500), "{:?}", nodes);
+        assert!(nodes.len() >= 25 && nodes.contains(&0) && nodes.contains(&1024), "{:?}", nodes);
     }
 
     /// The listing by hand prints the same, and each wrong one something else for some listing.
