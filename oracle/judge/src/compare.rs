@@ -7,7 +7,7 @@ mod shrink;
 mod stages;
 mod table;
 
-use crate::time;
+use crate::time::full_call;
 use crate::watch::Watch;
 use damage::Faults;
 use leaves::Leaf;
@@ -17,7 +17,6 @@ use samples::random::{bounded, gathered, order, Numbers, Style};
 use samples::substeps::{Answer, Chain, Stage};
 use samples::{Call, Rng, NODE_FLOATS, PARTICLE_FLOATS, PARTICLE_WORDS};
 use stages::{Asked, Kind, Left, KINDS};
-use std::fmt::Debug;
 use std::rc::Rc;
 use table::Table;
 
@@ -39,10 +38,10 @@ const ROUNDS_TO_LIMITS: u64 = 400;
 /// functions.
 pub fn run(seed: u64, count: u64) -> bool {
     let watch = Rc::new(Watch::start());
-    let asked = Rc::clone(&watch);
-    let mut judge = Judge::new(Box::new(move |call| {
-        asked.again();
-        call.ports()
+    let clock = Rc::clone(&watch);
+    let mut judge = Judge::new(Box::new(move |asked| {
+        clock.again();
+        asked.ports()
     }));
     for round in 0.. {
         watch.on(format_args!(
@@ -73,15 +72,15 @@ pub fn replay(told: &str) -> Option<bool> {
     if let Some(leaf) = leaves::all().into_iter().find(|leaf| leaf.name == name) {
         let asked = leaf.read(told)?;
         let (answer, right) = ((leaf.port)(&asked), leaf.judged(&asked));
-        return Some(replayed(name, &answer, (answer != right).then(|| format!("and not {:X?}", right))));
+        return Some(replayed(name, format!("{:X?}", answer), (answer != right).then(|| format!("and not {:X?}", right))));
     }
     let asked = Asked::read(told.lines())?;
     let (left, right) = (asked.ports(), asked.judged());
-    Some(replayed(asked.kind.name(), left.refusal, asked.difference(&left, &right)))
+    Some(replayed(asked.kind.name(), format!("{:?}", left.refusal), asked.difference(&left, &right)))
 }
 
-fn replayed(name: &str, answer: impl Debug, difference: Option<String>) -> bool {
-    println!("{} answers {:X?}, {}", name, answer, difference.as_deref().unwrap_or("and nothing differs"));
+fn replayed(name: &str, answer: String, difference: Option<String>) -> bool {
+    println!("{} answers {}, {}", name, answer, difference.as_deref().unwrap_or("and nothing differs"));
     difference.is_none()
 }
 
@@ -165,8 +164,8 @@ impl Judge {
         }
     }
 
-    /// As many particles, regions and colliders as there may be, and one more; and particles that fill many regions or all, as they are
-    /// and with late faults.
+    /// As many particles, regions and colliders as there may be, and one more; and many particles over many regions, no two alike, as they
+    /// are and with late faults.
     fn take_limits(&mut self, rng: &mut Rng) {
         let one = gathered(bounded(Style::plain(0.5, [9, 9], [1, 1], 1).sample(rng), 1, rng), rng);
         let mut calls: Vec<Call> = [65_536, 65_537].map(|count| one.edited(&[Edit::Copies(count)])).to_vec();
@@ -179,7 +178,7 @@ impl Judge {
         for call in calls {
             self.take_by_all(&call, rng);
         }
-        for ((particles, regions), most) in time::SIZES.into_iter().skip(1).zip([KINDS.len(), 1]) {
+        for (particles, regions, most) in [(8_192, [8, 8], KINDS.len()), (65_536, [32, 16], 1)] {
             let call = full(particles, regions, rng);
             self.take_by_all(&call, rng);
             self.take_late_faults(&call, most, rng);
@@ -255,8 +254,8 @@ impl Judge {
         self.table.longest = self.table.longest.max(length);
     }
 
-    /// A stage of the archive's, in one call or in several of which the last leaves what the Rust's own left; the others are held against
-    /// the Rust by themselves. Nothing more is asked where the Rust went no further.
+    /// A stage of the archive's, in one call or in several: the last has to leave what the Rust's own stage left, and the others what the
+    /// Rust makes of them by themselves. Nothing more is asked where the Rust went no further.
     fn take_stage(&mut self, stage: Stage, call: &Call, answer: Option<&Answer>, rng: &mut Rng) -> Answer {
         let answer = answer.ok_or((0, 0))?;
         let mut call = call.clone();
@@ -278,9 +277,9 @@ impl Judge {
     }
 }
 
-/// So many particles that fill these regions, on nodes that have something, with as many colliders as there may be.
+/// So many particles over these regions, on nodes that have something, with as many colliders as there may be.
 fn full(particles: usize, regions: [u32; 2], rng: &mut Rng) -> Call {
-    let mut call = gathered(bounded(time::full_call(particles, regions), 16, rng), rng);
+    let mut call = gathered(bounded(full_call(particles, regions), 16, rng), rng);
     call.node_floats.iter_mut().for_each(|float| *float = rng.between(-1.0, 1.0).to_bits());
     call
 }
@@ -375,6 +374,7 @@ mod tests {
         };
         assert_eq!(of(5), of(5));
         assert_ne!(of(5), of(6));
+        assert!(round(5, 0));
     }
 
     /// What is said of the calls of a round and of the next, where the archive's answers are changed by this.
@@ -392,6 +392,8 @@ mod tests {
     fn smallest(judge: &Judge) -> Asked {
         let told = judge.first.as_ref().expect("a difference");
         assert!(told.contains("smallest"), "{}", told);
+        // The archive itself is right about it.
+        assert_eq!(replay(told), Some(true));
         Asked::read(told.lines()).expect("a call")
     }
 
@@ -544,6 +546,7 @@ mod tests {
         let told = judge.first.expect("a difference");
         assert!(told.starts_with("mk_root differs; first:\nq\t"), "{}", told);
         assert!(told.contains("\nsmallest:\nq\t00000008\nthe archive answers [7] and not "), "{}", told);
+        assert_eq!([replay(&told), replay("mk_root differs"), replay("")], [Some(true), None, None]);
     }
 
     #[test]

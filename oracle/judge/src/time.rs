@@ -10,7 +10,7 @@ use sparkl2d::MmapMut;
 use std::time::{Duration, Instant};
 
 /// How many particles, and the regions along x and y; those at the far edges have no particles, since stencils reach beyond a region.
-pub(crate) const SIZES: [(usize, [u32; 2]); 3] = [(1_024, [4, 4]), (8_192, [8, 8]), (65_536, [32, 16])];
+const SIZES: [(usize, [u32; 2]); 3] = [(1_024, [4, 4]), (8_192, [8, 8]), (65_536, [32, 16])];
 /// The colliders' frictions, of which none is so large that a velocity overflows.
 const FRICTIONS: [f32; 4] = [0.0, 0.2, 0.5, 1.0];
 
