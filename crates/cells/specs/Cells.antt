@@ -1,10 +1,11 @@
 -- Document 01, "Float rules": the cell of a point and the centre of a cell, axis by axis. Points are lists, an entry an axis, so that the plane and space share
 -- each definition. Definitions only.
+use mathlib.Core.Bool.{Bool, _&&_}
 use mathlib.Core.List.{List, map}
 use Prim.Native.Nat.{ℕ, _+_, _-_, _%_, _^_}
-use lib.Ieee.{Float}
+use lib.Ieee.{Float, binary32, le, ofBits}
 use Rattle.packing.specs.Ids.{Dim, packedId, coordinates, region}
-use Rattle.numeric.specs.Bits.{_⊗_, _⊘_}
+use Rattle.numeric.specs.Bits.{_⊗_, _⊘_, one}
 use Rattle.numeric.specs.Round.{roundAway, castU32, nearestTo}
 
 -- ---- on an axis
@@ -16,6 +17,13 @@ nearest h x = roundAway (x ⊘ h)
 -- the coordinate of a point
 abbrev pub coordinate : Float → Float → ℕ
 coordinate h x = castU32 (nearest h x)
+
+-- whether a coordinate is on the grid: from 1 to 65,535
+abbrev pub greatestCoordinate : Float
+greatestCoordinate = ofBits binary32 0x477fff00
+
+abbrev pub inRange : Float → Bool
+inRange r = le one r && le r greatestCoordinate
 
 -- one off, wrapping
 abbrev pub oneOff : ℕ → ℕ

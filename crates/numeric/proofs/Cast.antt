@@ -18,7 +18,7 @@ abbrev pub limit : Float
 limit = ofBits binary32 0x4f800000
 
 -- `le` of two numbers with clear signs is one test of their fractions.
-le-is : (a b : ℕ) → (ltb a b || (eqb a b && true)) ≡ leb a b
+pub le-is : (a b : ℕ) → (ltb a b || (eqb a b && true)) ≡ leb a b
 le-is a b = go (ltb a b) (eqb a b) refl refl
   where
     go : (p q : Bool) → ltb a b ≡ p → eqb a b ≡ q → (p || (q && true)) ≡ leb a b

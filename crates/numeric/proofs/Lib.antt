@@ -2,6 +2,7 @@ pub mod Patterns
 pub mod Units
 pub mod Whole
 pub mod Cast
+pub mod Ranges
 pub mod Signs
 pub mod Squares
 pub mod RootLaws

@@ -151,6 +151,17 @@ neg-units q k = go (ltb (q * 2 ^ k) (2 ^ 277))
 pub neg-round : (n d : ℕ) → neg (round binary32 false n d) ≡ round binary32 true n d
 neg-round n d = ap neg (round-is binary32 false n d) ∙ neg-units _ _ ∙ sym (round-is binary32 true n d)
 
+units-negative : (s : Bool) (q k : ℕ) → negative (units binary32 s q k) ≡ s
+unfolding units
+units-negative s q k = go (ltb (q * 2 ^ k) (2 ^ 277))
+  where
+    go : (b : Bool) → negative (cond b (odd 25 s q k 149) (inf s)) ≡ s
+    go true = odd-negative 25 s q k 149
+    go false = refl
+
+pub round-negative : (s : Bool) (n d : ℕ) → negative (round binary32 s n d) ≡ s
+round-negative s n d = ap negative (round-is binary32 s n d) ∙ units-negative s _ _
+
 -- ---- against zero
 
 -- A zero equals 0, whatever its sign.

@@ -1,6 +1,7 @@
 // The float rules that the stages lean on: rounding, cast, root, inverse, maximum, and the kernel. Floats only, and every f32 is taken.
 mod bits;
 pub mod dim2;
+pub mod inner;
 pub mod kernel;
 mod roots;
 mod rounding;

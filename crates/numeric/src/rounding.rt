@@ -1,22 +1,7 @@
 // Whole numbers and f32: rounding to one, the cast to a u32, and the f32 nearest to one.
 ghost use mathlib.Core.Path.{_≡_};
-ghost use Prim.Native.Nat.{_^_, _<_, _≤_};
-ghost use Rattle.numeric.specs.Bits.{patternUnits};
-ghost use Rattle.numeric.specs.Round.{roundAway, nearestWhole, castU32, nearestTo};
-
-// The whole number nearest to the f32 with the pattern a, halves up; a is below the pattern of 2^23.
-fn nearest_whole(a: u32) -> u32
-    requires { ⌜ a < 1258291200 ⌝ }
-    ensures { λ r. ⌜ (r ≡ nearestWhole (patternUnits a) (2 ^ 149)) × (r ≤ 2 ^ 24) ⌝ }
-{
-    let field: u32 = a / 0x80_0000;
-    if field < 126 {
-        return 0;
-    }
-    // twice the number, without its fraction
-    let twice: u32 = (0x80_0000 + a % 0x80_0000) >> (149 - field);
-    (twice + 1) / 2
-}
+ghost use Rattle.numeric.specs.Round.{roundAway, castU32, nearestTo};
+use crate::inner::nearest_whole;
 
 // The nearest whole number, halves away from zero, with x's sign.
 pub fn round(x: f32) -> f32

@@ -1,12 +1,12 @@
--- `numeric::rounding::nearest_whole` meets its contract: twice the number without its fraction, halved up.
+-- `numeric::inner::nearest_whole` meets its contract: twice the number without its fraction, halved up.
 -- Assumes nothing.
 use Prim.Native.Nat.{_+_, _-_, _/_, _%_, _^_, _<_}
 use native.Mathlib.Omega.{arith}
 use borrow.Author.Needs.{needs}
 use lib.Dec.{lit≤}
 use Rattle.numeric.proofs.Whole.{small-field, by-shift, shift-lt}
-use Rattle.numeric.proofs.rounding.nearest_whole.Statement.{statement}
-use Rattle.numeric.proofs.rounding.nearest_whole.Tie as tie
+use Rattle.numeric.proofs.inner.nearest_whole.Statement.{statement}
+use Rattle.numeric.proofs.inner.nearest_whole.Tie as tie
 
 returns : tie.Need-returns
 returns c = (small-field (c .before .args .a) (omega arith), lit≤ tt)
