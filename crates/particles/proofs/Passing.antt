@@ -30,7 +30,7 @@ use Rattle.grid.specs.declared.Rule.the-variants.{Length, Limit, Setting, Code,
 use Rattle.particles.specs.Particles.{particleAt, positionOf}
 use Rattle.particles.specs.Places.{ofRegion, nodePlace}
 use Rattle.particles.specs.Table.{badFlag, notFinite, offGrid, outOfRegion, isAt, listed, unlisted, judged, firstParticle, outOfRegions, placed, checked, Passes, AllPass}
-use Rattle.particles.specs.Blocks.{IsBlock, placeAt, cornerOf, AllThere, Stands}
+use Rattle.particles.specs.Blocks.{IsBlock, cornerOf, AllThere, Stands, surrounded}
 use Rattle.particles.specs.declared.particle.Particle.{Particle}
 use Rattle.particles.proofs.Blocking as Blocking
 
@@ -41,10 +41,10 @@ all-of : {A : Type 0} (f : A → Bool) (d : A) (l : List A) → ((k : ℕ) → k
 all-of f d [] each = refl
 all-of f d (x ∷ l) each = rw (each 0 (omega arith)) (all-of f d l (λ k u. each (suc k) (omega arith)))
 
--- its region is the one whose block it stands in
-own : (h : Float) (x y r : ℕ) (block : List ℕ) (q : Particle) → packedId dim2 (x ∷ y ∷ []) ≡ r → region r ≡ r → Stands h x y block q → region (cellAssociatedToPoint dim2 h (positionOf q)) ≡ r
+-- its region is the one that it stands in
+pub own : (h : Float) (x y r : ℕ) (q : Particle) → packedId dim2 (x ∷ y ∷ []) ≡ r → region r ≡ r → Stands h x y q → region (cellAssociatedToPoint dim2 h (positionOf q)) ≡ r
 unfolding cellAssociatedToPoint
-own h x y r block q e w s = region-packed2 _ _ ∙ rw (s .along-x, s .along-y) (sym (region-packed2 x y)) ∙ ap region e ∙ w
+own h x y r q e w s = region-packed2 _ _ ∙ rw (s .along-x, s .along-y) (sym (region-packed2 x y)) ∙ ap region e ∙ w
 
 -- a place that is there is in a listed region
 is-listed : (ids : List ℕ) (cell : ℕ) → isAt (nodePlace ids cell) ≡ true → listed ids cell ≡ true
@@ -55,22 +55,29 @@ is-listed ids cell e = go (lookup ids (region cell)) e
     go (At k) e = refl
     go Absent e = e
 
-reached : (h : Float) (ids : List ℕ) (r : ℕ) (block : List ℕ) (q : Particle) → IsBlock ids r block → region (cellAssociatedToPoint dim2 h (positionOf q)) ≡ r → AllThere block (cornerOf h q) → unlisted h ids q ≡ false
+each-listed : (h : Float) (ids : List ℕ) (q : Particle) → ((i j : ℕ) → i < 3 → j < 3 → isAt (nodePlace ids (getD (stencilOf dim2 (cellAssociatedToPoint dim2 h (positionOf q))) (i * 3 + j) 0)) ≡ true) → unlisted h ids q ≡ false
 unfolding unlisted
-reached h ids r block q is own there =
+each-listed h ids q there =
     let stencil = stencilOf dim2 (cellAssociatedToPoint dim2 h (positionOf q)) in
     ap not
     (all-of (listed ids) 0 stencil
     (λ k l.
     let u : k < 9 = rw (stencils2 (cellAssociatedToPoint dim2 h (positionOf q))) at l in
     let at : k / 3 * 3 + k % 3 ≡ k = omega arith in
-    is-listed ids (getD stencil k 0)
-    (ap isAt (ap (λ (j : ℕ). nodePlace ids (getD stencil j 0)) (sym at) ∙ sym (Blocking.laws ids r block is .stencil h q own (k / 3) (k % 3) (omega arith) (omega arith)))
-    ∙ there (stepAt (k / 3)) (stepAt (k % 3)) (omega arith) (omega arith))))
+    is-listed ids (getD stencil k 0) (rw at at (there (k / 3) (k % 3) (omega arith) (omega arith)))))
 
-pub passes : (h : Float) (ids : List ℕ) (x y r : ℕ) (block : List ℕ) (q : Particle) → packedId dim2 (x ∷ y ∷ []) ≡ r → region r ≡ r → IsBlock ids r block → Stands h x y block q → Passes h ids r q
-unfolding judged outOfRegion regionAssociatedToPoint
-passes h ids x y r block q e w is s = go
+-- by the places of its region's block
+pub reached : (h : Float) (ids : List ℕ) (r : ℕ) (block : List ℕ) (q : Particle) → IsBlock ids r block → region (cellAssociatedToPoint dim2 h (positionOf q)) ≡ r → AllThere block (cornerOf h q) → unlisted h ids q ≡ false
+reached h ids r block q is own there =
+    each-listed h ids q (λ i j l u. ap isAt (sym (Blocking.laws ids r block is .stencil h q own i j l u)) ∙ there (stepAt i) (stepAt j) (omega arith) (omega arith))
+
+-- or since nothing that it could reach is missing
+pub all-reached : (h : Float) (ids : List ℕ) (r : ℕ) (q : Particle) → region r ≡ r → surrounded ids r ≡ true → region (cellAssociatedToPoint dim2 h (positionOf q)) ≡ r → unlisted h ids q ≡ false
+all-reached h ids r q w every own = each-listed h ids q (Blocking.all-found ids r w every h q own)
+
+pub passes : (h : Float) (ids : List ℕ) (x y r : ℕ) (q : Particle) → packedId dim2 (x ∷ y ∷ []) ≡ r → region r ≡ r → Stands h x y q → unlisted h ids q ≡ false → Passes h ids r q
+unfolding judged offGrid outOfRegion regionAssociatedToPoint
+passes h ids x y r q e w s listed = go
   where
     go : Passes h ids r q
     go Length = refl
@@ -80,9 +87,9 @@ passes h ids x y r block q e w is s = go
     go NotFinite = s .numbers
     go RegionIds = refl
     go Cover = refl
-    go OffGrid = s .on-grid
-    go OutOfRegion = ap not (eq-eqb _ _ (own h x y r block q e w s))
-    go Unlisted = reached h ids r block q is (own h x y r block q e w s) (s .there)
+    go OffGrid = ap not (s .on-grid)
+    go OutOfRegion = ap not (eq-eqb _ _ (own h x y r q e w s))
+    go Unlisted = listed
 
 -- ---- all of them
 

@@ -2,7 +2,7 @@
 -- what is proved of them.
 -- Assumes nothing.
 use mathlib.Core.Path.{_≡_}
-use mathlib.Core.Bool.{true, false}
+use mathlib.Core.Bool.{Bool, true, false}
 use mathlib.Core.List.{List, [], _∷_}
 use Prim.Native.Nat.{ℕ, zero, suc, _+_, _*_, _/_, _%_, _≤_, _<_}
 use lib.Ieee.{Float}
@@ -15,9 +15,10 @@ use Rattle.cells.specs.Stencil.{stepAt}
 use Rattle.cells.specs.declared.Found.{Found}
 use Rattle.cells.specs.declared.Found.the-variants.{At, Absent}
 use Rattle.grid.specs.Nodes.{regionCells}
+use Rattle.grid.specs.Table.{all}
 use Rattle.particles.specs.Particles.{positionOf}
 use Rattle.particles.specs.Places.{nodePlace}
-use Rattle.particles.specs.Table.{badFlag, notFinite, offGrid, isAt}
+use Rattle.particles.specs.Table.{badFlag, notFinite, OnGrid, isAt}
 use Rattle.particles.specs.declared.particle.Particle.{Particle}
 
 -- along each axis: the 4 of the region, and 2 more that a stencil reaches
@@ -48,12 +49,13 @@ IsBlock ids r block = (x y : ℕ) → x < blockSide → y < blockSide → foundA
 abbrev pub BlockIn : List ℕ → ℕ → Type 0
 BlockIn block n = (k : ℕ) → getD block k 0 ≤ n
 
--- where the stencil of a particle begins in its region's block, by the cells that the particle is nearest to
-abbrev pub cornerAt : Float → Float → ℕ
-cornerAt x y = oneOff (castU32 x) % 4 + blockSide * (oneOff (castU32 y) % 4)
+-- where a stencil begins in its region's block, by the coordinates of its first cell
+abbrev pub cornerIn : ℕ → ℕ → ℕ
+cornerIn x y = x % 4 + blockSide * (y % 4)
 
+-- and that of a particle
 abbrev pub cornerOf : Float → Particle → ℕ
-cornerOf h q = cornerAt (nearest h (q .position .x)) (nearest h (q .position .y))
+cornerOf h q = cornerIn (oneOff (castU32 (nearest h (q .position .x)))) (oneOff (castU32 (nearest h (q .position .y))))
 
 -- the place of the node that lies x and y beyond a corner
 abbrev pub placeAt : List ℕ → ℕ → ℕ → ℕ → Found
@@ -63,14 +65,17 @@ placeAt block corner x y = foundAt (getD block (corner + (x + blockSide * y)) 0)
 abbrev pub AllThere : List ℕ → ℕ → Type 0
 AllThere block corner = (x y : ℕ) → x < 3 → y < 3 → isAt (placeAt block corner x y) ≡ true
 
--- a particle that no rule refuses, as the code sees it: by the block of a region whose first cell is (x, y)
-pub record Stands (h : Float) (x y : ℕ) (block : List ℕ) (q : Particle) : Type 0 where
+-- a particle that stands in the region whose first cell is (x, y), as the code sees it
+pub record Stands (h : Float) (x y : ℕ) (q : Particle) : Type 0 where
   pub flags : badFlag q ≡ false
   pub numbers : notFinite q ≡ false
-  pub on-grid : offGrid h q ≡ false
+  pub on-grid : OnGrid h q
   pub along-x : oneOff (castU32 (nearest h (q .position .x))) / 4 ≡ x / 4
   pub along-y : oneOff (castU32 (nearest h (q .position .y))) / 4 ≡ y / 4
-  pub there : AllThere block (cornerOf h q)
+
+-- whether every region that a region's stencils reach is listed
+abbrev pub surrounded : List ℕ → ℕ → Bool
+surrounded ids r = all isAt (reachOf ids r)
 
 pub record Laws (ids : List ℕ) (r : ℕ) (block : List ℕ) : Type 0 where
   -- In the block of a particle's own region stand the places of its stencil, column by column.

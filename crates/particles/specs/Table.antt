@@ -7,11 +7,10 @@ use mathlib.Core.List.{List, [], _∷_, _++_}
 use Prim.Native.Nat.{ℕ, _+_, _*_, _≤_, _<_}
 use lib.ListN.{length, getD}
 use lib.Dec.{eqb}
-use lib.Ieee.{Float, binary32, le, ofBits}
+use lib.Ieee.{Float}
 use Rattle.laws.specs.Store.{Store, Holds}
 use Rattle.packing.specs.Ids.{dim2, region, stencilOf}
-use Rattle.numeric.specs.Bits.{one}
-use Rattle.cells.specs.Cells.{nearest, cellAssociatedToPoint, regionAssociatedToPoint}
+use Rattle.cells.specs.Cells.{nearest, inRange, cellAssociatedToPoint, regionAssociatedToPoint}
 use Rattle.cells.specs.Lookup.{lookup}
 use Rattle.cells.specs.declared.Found.{Found}
 use Rattle.cells.specs.declared.Found.the-variants.{At, Absent}
@@ -39,12 +38,6 @@ unfoldable pub notFinite : Particle → Bool
 notFinite q = not (all finite (particleForm .floatsOf q))
 
 -- ---- 8: r below 1 or above 65,535 on an axis
-
-abbrev pub greatestCoordinate : Float
-greatestCoordinate = ofBits binary32 0x477fff00
-
-abbrev pub inRange : Float → Bool
-inRange r = le one r && le r greatestCoordinate
 
 unfoldable pub onAxis : Float → Float → Bool
 onAxis h x = inRange (nearest h x)
@@ -131,6 +124,10 @@ stageCheck good own h regions ids ranges count particles nf nw =
     ∷ []
     )
 
+-- a particle is on the grid
+abbrev pub OnGrid : Float → Particle → Type 0
+OnGrid h q = all (onAxis h) (positionOf q) ≡ true
+
 -- every region of a particle's stencil is listed
 abbrev pub Reached : Float → List ℕ → Particle → Type 0
 Reached h ids q = all (listed ids) (stencilOf dim2 (cellAssociatedToPoint dim2 h (positionOf q))) ≡ true
@@ -142,7 +139,7 @@ pub record Accepted (h : Float) (ids ranges : List ℕ) (s : Store) (n : ℕ) : 
   pub numbers : (p : ℕ) → p < n → all finite (particleForm .floatsOf (particleAt s p)) ≡ true
   pub regions : Regions ids
   pub covers : Covers (length ids) ranges n
-  pub on-grid : (p : ℕ) → p < n → all (onAxis h) (positionOf (particleAt s p)) ≡ true
+  pub on-grid : (p : ℕ) → p < n → OnGrid h (particleAt s p)
   pub in-region : (r : ℕ) → r < length ids → (p : ℕ) → startOf ranges r ≤ p → p < startOf ranges r + countOf ranges r
       → regionAssociatedToPoint dim2 h (positionOf (particleAt s p)) ≡ getD ids r 0
   pub stencils : (p : ℕ) → p < n → Reached h ids (particleAt s p)

@@ -6,20 +6,22 @@ ghost use Prim.Native.Nat.{ℕ, _+_, _*_, _≤_, _<_};
 ghost use lib.ListN.{length, getD};
 ghost use Rattle.laws.specs.Store.{store};
 ghost use Rattle.packing.specs.Ids.{dim2, region};
+ghost use Rattle.cells.specs.Cells.{inRange};
 ghost use Rattle.grid.specs.Table.{all, matches, finite, Regions, rangeWords, startOf, countOf, Covers};
 ghost use Rattle.grid.specs.declared.Answer.the-variants.{Done};
 ghost use Rattle.particles.specs.Particles.{particleFloats, particleWords, particleAt};
-ghost use Rattle.particles.specs.Blocks.{blockCells, AllThere, Stands};
-ghost use Rattle.particles.specs.Table.{particleLengths, badFlag, notFinite, inRange, onAxis, offGrid, outOfRegion, listed, unlisted, judged, firstParticle, outOfRegions, placed, checked, stageCheck, AllPass};
+ghost use Rattle.particles.specs.Blocks.{blockCells, cornerOf, AllThere, Stands};
+ghost use Rattle.particles.specs.Table.{particleLengths, badFlag, notFinite, onAxis, offGrid, outOfRegion, listed, unlisted, judged, firstParticle, outOfRegions, placed, checked, stageCheck, OnGrid, AllPass};
 use crate::inner::blocks::BLOCK_SIDE;
 use crate::inner::blocks::block_of;
 use crate::inner::blocks::corner_of;
+use crate::inner::blocks::is_surrounded;
 use crate::inner::read_particle;
 use crate::particle::PARTICLE_FLOATS;
 use crate::particle::PARTICLE_WORDS;
 use crate::particle::Particle;
 use cells::Found;
-use cells::inner::first_cell;
+use cells::inner::coordinates;
 use cells::inner::nearest;
 use grid::Answer;
 use grid::Rule;
@@ -165,30 +167,31 @@ fn does_region_pass(
     if packing::dim2::pack(corner.x, corner.y) != region_id {
         return false;
     }
+    if !do_particles_stand(h, corner, pf, pw, start, count) {
+        return false;
+    }
+    // Few regions lack one of those that their stencils can reach, and only there each stencil has to be looked at.
+    if is_surrounded(ids, region_id) {
+        return true;
+    }
     let block = block_of(ids, region_id);
-    do_particles_pass(h, corner, &block, pf, pw, start, count)
+    do_stencils_stand(h, &block, pf, pw, start, count)
 }
 
-fn do_particles_pass(
+fn do_particles_stand(
     h: f32,
     corner: Cell,
-    block: &[usize],
     pf: &[f32],
     pw: &[u32],
     start: usize,
     count: usize,
 ) -> bool
-    requires { ⌜ (length (now block) ≡ blockCells) × ((start + count) * particleFloats ≤ length (now pf)) × ((start + count) * particleWords ≤ length (now pw)) ⌝ }
-    ensures { λ r. ⌜ ((r ≡ true) → (k : ℕ) → start ≤ k → k < start + count → Stands h (corner .x) (corner .y) (now (block .entry)) (particleAt (store (now (pf .entry)) (now (pw .entry))) k)) ⌝ }
+    requires { ⌜ ((start + count) * particleFloats ≤ length (now pf)) × ((start + count) * particleWords ≤ length (now pw)) ⌝ }
+    ensures { λ r. ⌜ ((r ≡ true) → (k : ℕ) → start ≤ k → k < start + count → Stands h (corner .x) (corner .y) (particleAt (store (now (pf .entry)) (now (pw .entry))) k)) ⌝ }
 {
     let mut left = count;
     while 0 < left {
-        if !does_particle_pass(
-            h,
-            corner,
-            block,
-            read_particle(pf, pw, start + count - left),
-        ) {
+        if !does_particle_stand(h, corner, read_particle(pf, pw, start + count - left)) {
             return false;
         }
         left -= 1;
@@ -196,22 +199,49 @@ fn do_particles_pass(
     true
 }
 
-fn does_particle_pass(h: f32, corner: Cell, block: &[usize], q: Particle) -> bool
-    requires { ⌜ length (now block) ≡ blockCells ⌝ }
-    ensures { λ r. ⌜ ((r ≡ true) → Stands h (corner .x) (corner .y) (now (block .entry)) q) ⌝ }
+// Whether a particle's flags, numbers and place are good, as one of the region that begins at a corner.
+fn does_particle_stand(h: f32, corner: Cell, q: Particle) -> bool
+    ensures { λ r. ⌜ ((r ≡ true) → Stands h (corner .x) (corner .y) q) ⌝ }
 {
     if has_bad_flag(q) | is_not_finite(q) {
         return false;
     }
+    let near = coordinates(h, q.position);
+    if (near.x == 0) | (near.y == 0) {
+        return false;
+    }
+    ((near.x - 1) / 4 == corner.x / 4) & ((near.y - 1) / 4 == corner.y / 4)
+}
+
+// Whether the stencils of particles that stand in a region have their nodes.
+fn do_stencils_stand(
+    h: f32,
+    block: &[usize],
+    pf: &[f32],
+    pw: &[u32],
+    start: usize,
+    count: usize,
+) -> bool
+    requires { ⌜ (length (now block) ≡ blockCells) × ((start + count) * particleFloats ≤ length (now pf)) × ((start + count) * particleWords ≤ length (now pw))
+        × ((k : ℕ) → start ≤ k → k < start + count → OnGrid h (particleAt (store (now pf) (now pw)) k)) ⌝ }
+    ensures { λ r. ⌜ ((r ≡ true) → (k : ℕ) → start ≤ k → k < start + count → AllThere (now (block .entry)) (cornerOf h (particleAt (store (now (pf .entry)) (now (pw .entry))) k))) ⌝ }
+{
+    let mut left = count;
+    while 0 < left {
+        if !does_stencil_stand(h, block, read_particle(pf, pw, start + count - left)) {
+            return false;
+        }
+        left -= 1;
+    }
+    true
+}
+
+fn does_stencil_stand(h: f32, block: &[usize], q: Particle) -> bool
+    requires { ⌜ (length (now block) ≡ blockCells) × OnGrid h q ⌝ }
+    ensures { λ r. ⌜ ((r ≡ true) → AllThere (now (block .entry)) (cornerOf h q)) ⌝ }
+{
     let near = nearest(h, q.position);
-    if !(is_coordinate(near.x) & is_coordinate(near.y)) {
-        return false;
-    }
-    let first = first_cell(near);
-    if !((first.x / 4 == corner.x / 4) & (first.y / 4 == corner.y / 4)) {
-        return false;
-    }
-    are_there(block, corner_of(near))
+    are_there(block, corner_of(near.first))
 }
 
 // Whether every node of the stencil that begins at a corner has a place.
