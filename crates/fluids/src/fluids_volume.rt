@@ -8,8 +8,9 @@ ghost use Rattle.laws.specs.Refusals.{settle};
 ghost use Rattle.grid.specs.Answers.{refused};
 ghost use Rattle.grid.specs.Nodes.{nodeForm, regionCells};
 ghost use Rattle.grid.specs.Table.{before};
+ghost use Rattle.particles.specs.Blocks.{cornerOf};
 ghost use Rattle.particles.specs.Particles.{particles};
-ghost use Rattle.particles.specs.Table.{Ready};
+ghost use Rattle.particles.specs.Table.{OnGrid, Ready};
 ghost use Rattle.gather.specs.Gather.{overColumn, Serves, Ranged, changesFrom};
 ghost use Rattle.fluids.specs.Fluids.{weighing, gatheredIn, withVolume, recomputed, recomputedIn, massless, volumes, emptied, particlesAfter, nodesAfter, fluidsCheck};
 use cells::inner::STENCIL_SIDE;
@@ -174,7 +175,7 @@ fn gather_range(
 
 // Only the fluids are affected.
 fn recompute(cell_width: f32, block: &[usize; 36], q: Particle, nf: &[f32], nw: &[u32]) -> Particle
-    requires { ⌜ Serves (now block) (store (now nf) (now nw)) ⌝ }
+    requires { ⌜ OnGrid «cell_width» q × Serves (now block) (cornerOf «cell_width» q) (store (now nf) (now nw)) ⌝ }
     ensures { λ r. ⌜ r ≡ recomputedIn «cell_width» (now (block .entry)) (store (now (nf .entry)) (now (nw .entry))) q ⌝ }
 {
     if q.fluid == 0 {
@@ -186,13 +187,13 @@ fn recompute(cell_width: f32, block: &[usize; 36], q: Particle, nf: &[f32], nw: 
 
 // The mass on the nine nodes of a particle's stencil, column by column.
 fn gather_mass(cell_width: f32, block: &[usize; 36], q: Particle, nf: &[f32], nw: &[u32]) -> f32
-    requires { ⌜ Serves (now block) (store (now nf) (now nw)) ⌝ }
+    requires { ⌜ OnGrid «cell_width» q × Serves (now block) (cornerOf «cell_width» q) (store (now nf) (now nw)) ⌝ }
     ensures { λ r. ⌜ r ≡ gatheredIn «cell_width» (now (block .entry)) (store (now (nf .entry)) (now (nw .entry))) q ⌝ }
 {
     let near = nearest(cell_width, q.position);
-    let dir = dir_to_associated_grid_node(cell_width, near, q.position);
+    let dir = dir_to_associated_grid_node(cell_width, near.at, q.position);
     let w = numeric::dim2::precompute_weights(dir, cell_width);
-    let corner = corner_of(near);
+    let corner = corner_of(near.first);
     let mut new_mass = 0.0;
     let mut i = 0;
     while i < STENCIL_SIDE {
@@ -212,7 +213,7 @@ fn gather_column(
     nw: &[u32],
     mass: f32,
 ) -> f32
-    requires { ⌜ (corner < 22) × (x < 3) × Serves (now block) (store (now nf) (now nw)) ⌝ }
+    requires { ⌜ (corner < 22) × (x < 3) × Serves (now block) corner (store (now nf) (now nw)) ⌝ }
     ensures { λ r. ⌜ r ≡ overColumn (store (now (nf .entry)) (now (nw .entry))) (weighing w) (now (block .entry)) corner x 3 mass ⌝ }
 {
     let mut new_mass = mass;

@@ -1,5 +1,6 @@
 -- What is gathered by the places of a region's block, column by column, is what is gathered over the stencil. Assumes nothing.
 use mathlib.Core.Path.{_≡_, refl, sym, ap, ap₂, _∙_}
+use mathlib.Core.Bool.{true, false≢true}
 use mathlib.Core.List.{List, [], _∷_}
 use Prim.Native.Nat.{ℕ, zero, suc, _+_, _-_, _*_, _≤_, _<_}
 use native.Mathlib.Omega.{arith}
@@ -15,12 +16,18 @@ use Rattle.cells.proofs.Steps.{by-steps}
 use Rattle.grid.specs.declared.grid_node.GridNode.{GridNode}
 use Rattle.particles.specs.Blocks.{foundAt, IsBlock, cornerOf, placeAt}
 use Rattle.particles.specs.Particles.{positionOf}
+use Rattle.particles.specs.Table.{isAt}
 use Rattle.particles.specs.declared.particle.Particle.{Particle}
 use Rattle.particles.proofs.Blocking as Blocking
 use Rattle.gather.specs.Transfer.{nothing}
 use Rattle.gather.specs.Gather.{nodeFound, nodeOfCell, overCells, overStencil, taken, overColumn, overColumns, adding, takenIn}
 
--- a number that is not 0 stands for the place before it
+-- a number that stands for a place is not 0
+pub is-some : (k : ℕ) → isAt (foundAt k) ≡ true → 0 < k
+is-some zero e = absurd (false≢true e)
+is-some (suc k) e = omega arith
+
+-- and it stands for the place before it
 pub found-at : (k : ℕ) → 0 < k → foundAt k ≡ At (k - 1)
 found-at zero l = absurd (omega arith)
 found-at (suc k) l = ap At (omega arith)

@@ -1,5 +1,5 @@
 -- What the particles of a region may build on while they are changed one after the other: those that are not changed yet stand where they stood. Assumes nothing.
-use mathlib.Core.Path.{_≡_, sym, ap, _∙_}
+use mathlib.Core.Path.{_≡_, sym, ap, _∙_, subst}
 use mathlib.Core.List.{List}
 use Prim.Native.Nat.{ℕ, _+_, _≤_, _<_}
 use native.Mathlib.Omega.{arith}
@@ -11,9 +11,9 @@ use Rattle.laws.specs.Hits.{run, gather, changeAt}
 use Rattle.laws.proofs.Hits as Hits
 use Rattle.cells.specs.Cells.{cellAssociatedToPoint, regionAssociatedToPoint}
 use Rattle.grid.specs.Table.{before, startOf, countOf}
-use Rattle.particles.specs.Blocks.{blockCells, IsBlock}
+use Rattle.particles.specs.Blocks.{blockCells, IsBlock, cornerOf}
 use Rattle.particles.specs.Particles.{particleForm, particleAt, particles, positionOf, reads, stores}
-use Rattle.particles.specs.Table.{Ready}
+use Rattle.particles.specs.Table.{Ready, OnGrid, Reached}
 use Rattle.particles.specs.declared.particle.Particle.{Particle}
 use Rattle.particles.proofs.Blocking as Blocking
 use Rattle.gather.specs.Gather.{Serves, Ranged, changesFrom}
@@ -28,23 +28,32 @@ untouched change at s n i p held apart =
 
 -- of a region's particles the first i are changed
 module _ {h : Float} {ids : List ℕ} {r start count : ℕ} {s₀ nodes : Store} (ranged : Ranged h ids r start count s₀ nodes) where
-  pub serves : (block : List ℕ) → IsBlock ids r block → length block ≡ blockCells → Serves block nodes
-  serves block is long =
-      let held = ranged .nodes-held in
-      record {
-        places = λ k. omega (arith, Blocking.laws ids r block is .places long k, held .words-long);
-        held = record { floats-long = omega (arith, held .floats-long, held .words-long); words-long = omega arith };
-      }
+  -- the next one stands as it stood
+  module _ (change : Particle → Particle) (i : ℕ) (l : i < count) {s : Store} {q : Particle} (e : s ≡ run particles (changesFrom change start i) s₀) (at : q ≡ particleAt s (start + i)) where
+    stood : q ≡ particleAt s₀ (start + i)
+    stood =
+        at
+        ∙ ap (λ (t : Store). particleAt t (start + i)) e
+        ∙ untouched (λ (p : ℕ). change) (λ (j : ℕ). start + j) s₀ (ranged .all) i (start + i) (ranged .particles-held) (λ j u. (omega (arith, ranged .within), λ same. omega arith))
 
-  -- the next one is in the region
-  pub own : (change : Particle → Particle) (i : ℕ) → i < count → {s : Store} {q : Particle} → s ≡ run particles (changesFrom change start i) s₀ → q ≡ particleAt s (start + i)
-      → region (cellAssociatedToPoint dim2 h (positionOf q)) ≡ r
-  unfolding regionAssociatedToPoint
-  own change i l {s} {q} e at =
-      let there : particleAt (run particles (changesFrom change start i) s₀) (start + i) ≡ particleAt s₀ (start + i)
-      = untouched (λ (p : ℕ). change) (λ (j : ℕ). start + j) s₀ (ranged .all) i (start + i) (ranged .particles-held) (λ j u. (omega (arith, ranged .within), λ same. omega arith)) in
-      ap (λ (p : Particle). region (cellAssociatedToPoint dim2 h (positionOf p))) (at ∙ ap (λ (t : Store). particleAt t (start + i)) e ∙ there)
-      ∙ ranged .in-region (start + i) (omega arith) (omega arith)
+    -- so it is in the region
+    pub own : region (cellAssociatedToPoint dim2 h (positionOf q)) ≡ r
+    unfolding regionAssociatedToPoint
+    own = ap (λ (p : Particle). region (cellAssociatedToPoint dim2 h (positionOf p))) stood ∙ ranged .in-region (start + i) (omega arith) (omega arith)
+
+    -- on the grid
+    pub on : OnGrid h q
+    on = subst (OnGrid h) (sym stood) (ranged .on-grid (start + i) (omega arith) (omega arith))
+
+    -- and the block of its region has a node for each cell of its stencil
+    pub serves : (block : List ℕ) → IsBlock ids r block → length block ≡ blockCells → Serves block (cornerOf h q) nodes
+    serves block is long =
+        let held = ranged .nodes-held in
+        record {
+          there = Blocking.all-there ids r block is h q own (subst (Reached h ids) (sym stood) (ranged .stencils (start + i) (omega arith) (omega arith)));
+          places = λ k. omega (arith, Blocking.laws ids r block is .places long k, held .words-long);
+          held = record { floats-long = omega (arith, held .floats-long, held .words-long); words-long = omega arith };
+        }
 
 -- the regions before r are changed
 pub next-region : {h : Float} {ids ranges : List ℕ} {s₀ s nodes : Store} (ready : Ready h ids ranges s₀ nodes) (change : Particle → Particle) (r : ℕ) → r < length ids
@@ -55,6 +64,8 @@ next-region {h} {ids} {ranges} {s₀} {s} {nodes} ready change r l e =
     let b : startOf ranges r ≡ before ranges r = covers .begins r l in
     let w : startOf ranges r + countOf ranges r ≤ n = covers .within r l in
     let done = run particles (gather (changeAt (λ (p : ℕ). change)) (before ranges r)) s₀ in
+    let stood : (p : ℕ) → startOf ranges r ≤ p → particleAt s p ≡ particleAt s₀ p
+    = λ p u. ap (λ (t : Store). particleAt t p) e ∙ untouched (λ (i : ℕ). change) (λ (j : ℕ). j) s₀ n (before ranges r) p (ready .particles-held) (λ j x. (omega arith, λ same. omega arith)) in
     let held : Holds particleForm done n
     = stores done n .1 (Hits.run-ok particles (gather (changeAt (λ (p : ℕ). change)) (before ranges r)) s₀ n (stores s₀ n .0 (ready .particles-held)) (Hits.changes-within particles (λ (p : ℕ). change) n (before ranges r) (omega arith))) in
     record {
@@ -63,10 +74,9 @@ next-region {h} {ids} {ranges} {s₀} {s} {nodes} ready change r l e =
       particles-held = rw e held;
       nodes-held = ready .nodes-held;
       within = w;
-      in-region = λ p u v.
-          ap (λ (q : Particle). regionAssociatedToPoint dim2 h (positionOf q))
-          (ap (λ (t : Store). particleAt t p) e ∙ untouched (λ (i : ℕ). change) (λ (j : ℕ). j) s₀ n (before ranges r) p (ready .particles-held) (λ j x. (omega arith, λ same. omega arith)))
-          ∙ ready .accepted .in-region r l p u v;
+      in-region = λ p u v. ap (λ (q : Particle). regionAssociatedToPoint dim2 h (positionOf q)) (stood p u) ∙ ready .accepted .in-region r l p u v;
+      on-grid = λ p u v. subst (OnGrid h) (sym (stood p u)) (ready .accepted .on-grid p (omega arith));
+      stencils = λ p u v. subst (Reached h ids) (sym (stood p u)) (ready .accepted .stencils p (omega arith));
     }
 
 -- together they have all particles

@@ -20,9 +20,9 @@ use Rattle.grid.specs.declared.Answer.{Answer}
 use Rattle.grid.specs.declared.Rule.the-variants.{Code, NotFinite}
 use Rattle.grid.specs.declared.grid_node.GridNode.{GridNode}
 use Rattle.particles.specs.Particles.{particleForm, particleAt, particles, positionOf}
-use Rattle.particles.specs.Blocks.{BlockIn, cornerOf, placeAt}
+use Rattle.particles.specs.Blocks.{BlockIn, cornerOf, placeAt, AllThere}
 use Rattle.particles.specs.Places.{nodePlace}
-use Rattle.particles.specs.Table.{particleLengths, firstParticle, stageCheck}
+use Rattle.particles.specs.Table.{particleLengths, firstParticle, stageCheck, OnGrid, Reached}
 use Rattle.particles.specs.declared.particle.Particle.{Particle}
 use Rattle.gather.specs.Transfer.{Taken, Given, nothing, takenFrom, on, nodeOf, advanced, finished}
 
@@ -79,8 +79,9 @@ takenIn h block nodes q =
     let dir = dirToAssociatedGridNode h (positionOf q) in
     overColumns nodes (adding h dir) block (cornerOf h q) 3 (nothing dir)
 
--- the places of a block are places of nodes that are there
-pub record Serves (block : List ℕ) (nodes : Store) : Type 0 where
+-- the places of a block are places of nodes, and there is one for each cell of the stencil that begins at a corner
+pub record Serves (block : List ℕ) (corner : ℕ) (nodes : Store) : Type 0 where
+  pub there : AllThere block corner
   pub places : BlockIn block (length (nodes .words))
   pub held : Holds nodeForm nodes (length (nodes .words))
 
@@ -92,6 +93,8 @@ pub record Ranged (h : Float) (ids : List ℕ) (r start count : ℕ) (s nodes : 
   pub nodes-held : Holds nodeForm nodes (length ids * regionCells)
   pub within : start + count ≤ all
   pub in-region : (p : ℕ) → start ≤ p → p < start + count → regionAssociatedToPoint dim2 h (positionOf (particleAt s p)) ≡ r
+  pub on-grid : (p : ℕ) → start ≤ p → p < start + count → OnGrid h (particleAt s p)
+  pub stencils : (p : ℕ) → start ≤ p → p < start + count → Reached h ids (particleAt s p)
 
 -- n particles from a place on, each changed
 abbrev pub changesFrom : (Particle → Particle) → ℕ → ℕ → List (Hit Particle)

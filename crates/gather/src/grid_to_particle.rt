@@ -13,8 +13,9 @@ ghost use Rattle.laws.specs.Hits.{run};
 ghost use Rattle.laws.specs.Refusals.{settle};
 ghost use Rattle.grid.specs.Answers.{refused};
 ghost use Rattle.grid.specs.Table.{before};
+ghost use Rattle.particles.specs.Blocks.{cornerOf};
 ghost use Rattle.particles.specs.Particles.{particleForm, particles};
-ghost use Rattle.particles.specs.Table.{Ready};
+ghost use Rattle.particles.specs.Table.{OnGrid, Ready};
 ghost use Rattle.gather.specs.Transfer.{nothing, takenFrom, eroded, solidDeformed, fluidDeformed, deformed, fails, on, nodeOf, bodyOf, stateOf, takenBy, givenBy, advanced, finished};
 ghost use Rattle.gather.specs.Gather.{overColumn, adding, takenIn, Serves, Ranged, firstChange, changesFrom, givenFloats, givenWords, givenAt, firstHalf, secondHalf, firstCheck, secondCheck};
 use crate::inner::check_first_half;
@@ -177,13 +178,13 @@ fn gather_range(
 
 // What a particle takes from the nine nodes of its stencil, column by column.
 fn take(cell_width: f32, block: &[usize; 36], q: Particle, nf: &[f32], nw: &[u32]) -> Transfer
-    requires { ⌜ Serves (now block) (store (now nf) (now nw)) ⌝ }
+    requires { ⌜ OnGrid «cell_width» q × Serves (now block) (cornerOf «cell_width» q) (store (now nf) (now nw)) ⌝ }
     ensures { λ r. ⌜ takenBy r ≡ takenIn «cell_width» (now (block .entry)) (store (now (nf .entry)) (now (nw .entry))) q ⌝ }
 {
     let near = nearest(cell_width, q.position);
-    let dir = dir_to_associated_grid_node(cell_width, near, q.position);
+    let dir = dir_to_associated_grid_node(cell_width, near.at, q.position);
     let w = numeric::dim2::precompute_weights(dir, cell_width);
-    let corner = corner_of(near);
+    let corner = corner_of(near.first);
     let mut t = zero_transfer();
     let mut i = 0;
     while i < STENCIL_SIDE {
@@ -205,7 +206,7 @@ fn take_column(
     nw: &[u32],
     taken: Transfer,
 ) -> Transfer
-    requires { ⌜ (corner < 22) × (x < 3) × (w ≡ precomputeWeights (axes dir) «cell_width») × Serves (now block) (store (now nf) (now nw)) ⌝ }
+    requires { ⌜ (corner < 22) × (x < 3) × (w ≡ precomputeWeights (axes dir) «cell_width») × Serves (now block) corner (store (now nf) (now nw)) ⌝ }
     ensures { λ r. ⌜ takenBy r ≡ overColumn (store (now (nf .entry)) (now (nw .entry))) (adding «cell_width» (axes dir)) (now (block .entry)) corner x 3 (takenBy taken) ⌝ }
 {
     let mut t = taken;

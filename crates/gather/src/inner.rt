@@ -18,7 +18,6 @@ use grid::inner::check_call;
 use grid::inner::check_flags;
 use grid::inner::check_limits;
 use grid::inner::check_numbers;
-use grid::inner::empty;
 use grid::inner::first_refusal;
 use grid::inner::fits;
 use grid::inner::is_step;
@@ -38,7 +37,7 @@ pub fn node_in(
     nf: &[f32],
     nw: &[u32],
 ) -> GridNode
-    requires { ⌜ (corner < 22) × (x < 3) × (y < 3) × Serves (now block) (store (now nf) (now nw)) ⌝ }
+    requires { ⌜ (corner < 22) × (x < 3) × (y < 3) × Serves (now block) corner (store (now nf) (now nw)) ⌝ }
     ensures { λ r. ⌜ r ≡ nodeFound (store (now (nf .entry)) (now (nw .entry))) (placeAt (now (block .entry)) corner x y) ⌝ }
 {
     node_at(
@@ -48,14 +47,11 @@ pub fn node_in(
     )
 }
 
-// The node at a place of a block; an empty one where there is none, which no accepted call asks for.
+// The node at a place of a block, which numbers them from 1 on. There is one, as the check has shown.
 fn node_at(place: usize, nf: &[f32], nw: &[u32]) -> GridNode
-    requires { ⌜ (place ≤ length (now nw)) × Holds nodeForm (store (now nf) (now nw)) (length (now nw)) ⌝ }
+    requires { ⌜ (0 < place) × (place ≤ length (now nw)) × Holds nodeForm (store (now nf) (now nw)) (length (now nw)) ⌝ }
     ensures { λ r. ⌜ r ≡ nodeFound (store (now (nf .entry)) (now (nw .entry))) (foundAt place) ⌝ }
 {
-    if place == 0 {
-        return empty();
-    }
     read_node(nf, nw, place - 1)
 }
 

@@ -1,7 +1,7 @@
 // Scatter, of all regions colour by colour, and of one region.
 ghost use mathlib.Core.Path.{_≡_};
 ghost use mathlib.Core.List.{[], _∷_};
-ghost use Prim.Native.Nat.{_+_, _*_, _≤_, _<_};
+ghost use Prim.Native.Nat.{ℕ, _+_, _*_, _≤_, _<_};
 ghost use lib.ListN.{length};
 ghost use Rattle.numeric.specs.Axes.{axes, rows};
 ghost use Rattle.numeric.specs.Bits.{_⊗_};
@@ -13,9 +13,9 @@ ghost use Rattle.cells.specs.Stencil.{dirToAssociatedGridNode};
 ghost use Rattle.grid.specs.Answers.{refused};
 ghost use Rattle.grid.specs.declared.Answer.the-variants.{Done};
 ghost use Rattle.grid.specs.Nodes.{nodeForm, nodes};
-ghost use Rattle.particles.specs.Particles.{particleFloats, particleWords, positionOf};
+ghost use Rattle.particles.specs.Particles.{particleFloats, particleWords, particleAt, positionOf};
 ghost use Rattle.particles.specs.Blocks.{foundAt, BlockIn, cornerOf};
-ghost use Rattle.particles.specs.Table.{Ready};
+ghost use Rattle.particles.specs.Table.{OnGrid, Ready};
 ghost use Rattle.scatter.specs.Hit.{stressOf, affineOf, psiMassOf, bodyOf, brought, broughtBy, hitNode, weighedNode, changedFor, changedBy};
 ghost use Rattle.scatter.specs.Scatter.{onNode, regionHits, columnHits, blockHits, nearHits, colouredHits, colourHits, scatterHits, scattered, regionScattered, scatterCheck, placeCheck};
 use crate::inner::check_scatter;
@@ -252,7 +252,8 @@ fn scatter_particles(
     nf: &mut [f32],
     nw: &mut [u32],
 )
-    requires { ⌜ ((start + count) * particleFloats ≤ length (now pf)) × ((start + count) * particleWords ≤ length (now pw)) × BlockIn (now block) (length (now nw)) × Holds nodeForm (store (now nf) (now nw)) (length (now nw)) ⌝ }
+    requires { ⌜ ((start + count) * particleFloats ≤ length (now pf)) × ((start + count) * particleWords ≤ length (now pw)) × BlockIn (now block) (length (now nw)) × Holds nodeForm (store (now nf) (now nw)) (length (now nw))
+        × ((k : ℕ) → k < count → OnGrid «cell_width» (particleAt (store (now pf) (now pw)) (start + k))) ⌝ }
     ensures { λ _. ⌜ store (now (nf .exit)) (now (nw .exit)) ≡ run nodes (nearHits (now (block .entry)) «cell_width» (changedFor «cell_width» pass) (store (now (pf .entry)) (now (pw .entry))) start count) (store (now (nf .entry)) (now (nw .entry))) ⌝ }
 {
     let mut left = count;
@@ -272,14 +273,14 @@ fn scatter_particle(
     nf: &mut [f32],
     nw: &mut [u32],
 )
-    requires { ⌜ BlockIn (now block) (length (now nw)) × Holds nodeForm (store (now nf) (now nw)) (length (now nw)) ⌝ }
+    requires { ⌜ OnGrid «cell_width» q × BlockIn (now block) (length (now nw)) × Holds nodeForm (store (now nf) (now nw)) (length (now nw)) ⌝ }
     ensures { λ _. ⌜ store (now (nf .exit)) (now (nw .exit)) ≡ run nodes (blockHits (now (block .entry)) (changedFor «cell_width» pass q) (cornerOf «cell_width» q)) (store (now (nf .entry)) (now (nw .entry))) ⌝ }
 {
     let near = nearest(cell_width, q.position);
-    let dir = dir_to_associated_grid_node(cell_width, near, q.position);
+    let dir = dir_to_associated_grid_node(cell_width, near.at, q.position);
     let load = load_of(cell_width, pass, q);
     let w = numeric::dim2::precompute_weights(dir, cell_width);
-    let corner = corner_of(near);
+    let corner = corner_of(near.first);
     let mut i = 0;
     while i < STENCIL_SIDE {
         hit_column(cell_width, block, corner, dir, load, w, step(i), nf, nw);

@@ -13,7 +13,7 @@ use Rattle.particles.specs.Particles.{particles}
 use Rattle.particles.specs.declared.particle.Particle.{Particle}
 use Rattle.gather.specs.Gather.{changesFrom}
 use Rattle.gather.proofs.Gathering.{one-change}
-use Rattle.gather.proofs.Ranging.{serves, own}
+use Rattle.gather.proofs.Ranging.{serves, own, on}
 use Rattle.fluids.specs.Fluids.{recomputed}
 use Rattle.fluids.proofs.Recomputing.{recomputed-in}
 use Rattle.fluids.proofs.fluids_volume.gather_range.Statement.{statement}
@@ -39,7 +39,16 @@ read-particle-requires : tie.Need-read-particle-requires Inv-loop μ-loop
 read-particle-requires c κs = let p = c .before .before .before .before .before .before .before .before .before .before .pre in (omega (arith, p .within, p .particles-held .floats-long), omega (arith, p .within, p .particles-held .words-long))
 
 recompute-requires : tie.Need-recompute-requires Inv-loop μ-loop
-recompute-requires c κs = let b = c .before .before .before .before .before .before .before .before .block-of in serves (c .before .before .before .before .before .before .before .before .before .before .before .before .before .before .pre) (b .result) (b .ensures) (b .ok .1 .0 .1)
+recompute-requires c κs =
+    let t = c .before .before .before .before .before .before in
+    let l = t .before .loop in
+    let b = t .before .before .block-of in
+    let a = t .before .before .before .before .before .before .before .before in
+    let g = a .args in
+    let change : Particle → Particle = recomputed (g .cell-width) (now (g .ids)) (store (now (g .nf)) (now (g .nw))) in
+    let u : l .k < g .count = omega (arith, t .loop-test .taken) in
+    let q = c .before .before .before .read-particle .ensures in
+    (on (a .pre) change (l .k) u (l .inv .3) q, serves (a .pre) change (l .k) u (l .inv .3) q (b .result) (b .ensures) (b .ok .1 .0 .1))
 
 write-particle-requires : tie.Need-write-particle-requires Inv-loop μ-loop
 write-particle-requires c κs =

@@ -14,7 +14,7 @@ use Rattle.particles.specs.declared.particle.Particle.{Particle}
 use Rattle.gather.specs.Gather.{firstChange, changesFrom}
 use Rattle.gather.proofs.Columns.{taken-in}
 use Rattle.gather.proofs.Gathering.{one-change}
-use Rattle.gather.proofs.Ranging.{serves, own}
+use Rattle.gather.proofs.Ranging.{serves, own, on}
 use Rattle.gather.proofs.grid_to_particle.gather_range.Statement.{statement}
 use Rattle.gather.proofs.grid_to_particle.gather_range.Tie as tie
 
@@ -42,8 +42,15 @@ read-particle-requires c κs =
 
 take-requires : tie.Need-take-requires Inv-loop μ-loop
 take-requires c κs =
-    let b = c .before .before .before .before .before .before .block-of in
-    serves (c .before .before .before .before .before .before .before .before .before .before .before .before .pre) (b .result) (b .ensures) (b .ok .1 .0 .1)
+    let t = c .before .before .before .before in
+    let l = t .before .loop in
+    let b = t .before .before .block-of in
+    let a = t .before .before .before .before .before .before .before .before in
+    let g = a .args in
+    let change : Particle → Particle = firstChange (g .cell-width) (now (g .ids)) (store (now (g .nf)) (now (g .nw))) (g .dt) (g .modified-eigenerosion) in
+    let u : l .k < g .count = omega (arith, t .loop-test .taken) in
+    let q = c .before .read-particle .ensures in
+    (on (a .pre) change (l .k) u (l .inv .3) q, serves (a .pre) change (l .k) u (l .inv .3) q (b .result) (b .ensures) (b .ok .1 .0 .1))
 
 write-particle-requires : tie.Need-write-particle-requires Inv-loop μ-loop
 write-particle-requires c κs =

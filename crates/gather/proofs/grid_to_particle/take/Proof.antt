@@ -1,18 +1,19 @@
 -- `gather::grid_to_particle::take` meets its contract: the columns below i are taken from.
 -- Assumes nothing.
-use mathlib.Core.Path.{_≡_, ap, ap₂, _∙_}
+use mathlib.Core.Path.{_≡_, sym, ap, ap₂, _∙_, subst}
 use mathlib.Core.List.{List}
 use Prim.Native.Nat.{ℕ, suc, _+_, _-_, _≤_}
 use native.Mathlib.Omega.{arith}
 use borrow.Author.Needs.{needs}
-use lib.Ieee.{Float, nan}
+use lib.Ieee.{Float}
 use lib.ListN.{getD}
 use denote.Ref.{now}
 use Rattle.numeric.specs.Axes.{axes}
 use Rattle.laws.specs.Store.{store}
-use Rattle.particles.specs.Blocks.{cornerAt}
+use Rattle.particles.specs.Blocks.{cornerIn, cornerOf}
+use Rattle.particles.proofs.Placing.{on-axes}
 use Rattle.gather.specs.Transfer.{nothing, takenBy}
-use Rattle.gather.specs.Gather.{overColumns, adding, takenIn}
+use Rattle.gather.specs.Gather.{overColumns, adding, takenIn, Serves}
 use Rattle.gather.proofs.grid_to_particle.take.Statement.{statement}
 use Rattle.gather.proofs.grid_to_particle.take.Tie as tie
 
@@ -22,8 +23,15 @@ Inv-loop h block nf nw dir w corner t₀ i₀ t i = (i ≤ 3) × (takenBy t ≡ 
 abbrev μ-loop : tie.MeasureT-loop
 μ-loop h block nf nw dir w corner t₀ i₀ t i = 3 - i
 
+nearest-requires : tie.Need-nearest-requires Inv-loop μ-loop
+nearest-requires c κs = let a = c .before .before in on-axes (a .args .cell-width) (a .args .q) (a .pre .0)
+
 dir-requires : tie.Need-dir-to-associated-grid-node-requires Inv-loop μ-loop
-dir-requires c κs = c .nearest .ensures
+dir-requires c κs = c .nearest .ensures .0
+
+-- The corner is the particle's.
+corner : (c : tie.After-corner-of Inv-loop μ-loop) → let g = c .before .before .before .before .before .before .args in c .corner-of .result ≡ cornerOf (g .cell-width) (g .q)
+corner c = c .corner-of .ensures .0 ∙ ap (λ (xs : List ℕ). cornerIn (getD xs 0 0) (getD xs 1 0)) (c .before .before .before .nearest .ensures .1)
 
 loop-holds : tie.Need-loop-holds Inv-loop μ-loop
 unfolding overColumns
@@ -31,7 +39,10 @@ loop-holds c = (omega arith, c .zero-transfer .ensures)
 
 take-column-requires : tie.Need-take-column-requires Inv-loop μ-loop
 take-column-requires c κs =
-    (c .before .before .before .before .corner-of .ensures .1, c .step .ensures .1, c .before .before .before .before .before .precompute-weights .ensures, c .before .before .before .before .before .before .before .before .before .before .pre)
+    let k = c .before .before .before .before in
+    let a = k .before .before .before .before .before .before in
+    let serves = subst (λ (n : ℕ). Serves (now (a .args .block)) n (store (now (a .args .nf)) (now (a .args .nw)))) (sym (corner k)) (a .pre .1) in
+    (k .corner-of .ensures .1, c .step .ensures .1, k .before .precompute-weights .ensures, serves)
 
 loop-again : tie.Need-loop-again Inv-loop μ-loop
 unfolding overColumns
@@ -49,8 +60,8 @@ returns c =
     ∙ rw e
     (ap₂ (λ (d : List Float) (corner : ℕ). overColumns (store (now (g .nf)) (now (g .nw))) (adding (g .cell-width) d) (now (g .block)) corner 3 (nothing d))
     (c .before .before .before .before .before .dir-to-associated-grid-node .ensures)
-    (c .before .before .before .corner-of .ensures .0 ∙ ap (λ (xs : List Float). cornerAt (getD xs 0 nan) (getD xs 1 nan)) (c .before .before .before .before .before .before .nearest .ensures)))
+    (corner (c .before .before .before)))
 
 pub take-spec : {M : Type 1} → statement M
 take-spec =
-    tie.close (tie.spec Inv-loop μ-loop (λ c κs. search needs) dir-requires (λ c κs. search needs) (λ c κs. search needs) (λ c κs. search needs) loop-holds (λ c κs. search needs) take-column-requires (λ c. search needs) (λ c. search needs) loop-again returns)
+    tie.close (tie.spec Inv-loop μ-loop nearest-requires dir-requires (λ c κs. search needs) (λ c κs. search needs) (λ c κs. search needs) loop-holds (λ c κs. search needs) take-column-requires (λ c. search needs) (λ c. search needs) loop-again returns)

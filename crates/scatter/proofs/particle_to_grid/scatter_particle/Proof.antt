@@ -2,10 +2,10 @@
 -- Assumes nothing.
 use mathlib.Core.List.{List}
 use mathlib.Core.Path.{_≡_, ap, _∙_}
-use Prim.Native.Nat.{_-_, _≤_}
+use Prim.Native.Nat.{ℕ, _-_, _≤_}
 use native.Mathlib.Omega.{arith}
 use borrow.Author.Needs.{needs}
-use lib.Ieee.{Float, nan}
+use lib.Ieee.{Float}
 use lib.ListN.{length, getD}
 use denote.Ref.{now}
 use Rattle.numeric.specs.Axes.{axes}
@@ -14,7 +14,8 @@ use Rattle.laws.specs.Hits.{run, gather}
 use Rattle.laws.proofs.Hits.{run-none, run-more}
 use Rattle.cells.specs.Stencil.{stepAt}
 use Rattle.grid.specs.Nodes.{nodeForm, nodes}
-use Rattle.particles.specs.Blocks.{cornerAt, cornerOf}
+use Rattle.particles.specs.Blocks.{cornerIn, cornerOf}
+use Rattle.particles.proofs.Placing.{on-axes}
 use Rattle.scatter.specs.Hit.{changedFor, changedBy}
 use Rattle.scatter.specs.Scatter.{columnHits, blockHits}
 use Rattle.scatter.proofs.Hitting.{among}
@@ -29,12 +30,18 @@ Inv-loop h block nf₀ nw₀ dir load w corner i₀ nf nw i =
 abbrev μ-loop : tie.MeasureT-loop
 μ-loop h block nf₀ nw₀ dir load w corner i₀ nf nw i = 3 - i
 
+nearest-requires : tie.Need-nearest-requires Inv-loop μ-loop
+nearest-requires c κs = let a = c .before .before in on-axes (a .args .cell-width) (a .args .q) (a .pre .0)
+
+dir-requires : tie.Need-dir-to-associated-grid-node-requires Inv-loop μ-loop
+dir-requires c κs = c .nearest .ensures .0
+
 loop-holds : tie.Need-loop-holds Inv-loop μ-loop
-loop-holds c = (omega arith, c .before .before .before .before .before .before .before .pre .1, run-none nodes _ _)
+loop-holds c = (omega arith, c .before .before .before .before .before .before .before .pre .2, run-none nodes _ _)
 
 hit-column-requires : tie.Need-hit-column-requires Inv-loop μ-loop
 hit-column-requires c κs =
-    let places = among (now (c .before .before .before .before .before .before .before .before .before .before .before .before .args .block)) _ _ _ (c .before .before .before .before .before .before .before .before .before .before .before .before .pre .0) (c .before .before .before .before .loop .inv .1) in
+    let places = among (now (c .before .before .before .before .before .before .before .before .before .before .before .before .args .block)) _ _ _ (c .before .before .before .before .before .before .before .before .before .before .before .before .pre .1) (c .before .before .before .before .loop .inv .1) in
     (c .before .before .before .before .before .before .precompute-weights .ensures, c .before .before .before .before .before .corner-of .ensures .1, c .before .before .step .ensures .1, places .0, places .1)
 
 loop-again : tie.Need-loop-again Inv-loop μ-loop
@@ -57,9 +64,9 @@ returns c =
     let change : changedBy (g .cell-width) (axes (c .before .before .before .before .before .dir-to-associated-grid-node .result)) (load .result) ≡ changedFor (g .cell-width) (g .pass) (g .q)
     = ap (λ (dir : List Float). changedBy (g .cell-width) dir (load .result)) (c .before .before .before .before .before .dir-to-associated-grid-node .ensures) ∙ load .ensures in
     let corner : c .before .before .corner-of .result ≡ cornerOf (g .cell-width) (g .q)
-    = c .before .before .corner-of .ensures .0 ∙ ap (λ (near : List Float). cornerAt (getD near 0 nan) (getD near 1 nan)) (c .before .before .before .before .before .before .nearest .ensures) in
+    = c .before .before .corner-of .ensures .0 ∙ ap (λ (first : List ℕ). cornerIn (getD first 0 0) (getD first 1 0)) (c .before .before .before .before .before .before .nearest .ensures .1) in
     c .before .loop .inv .2 ∙ rw (e, change, corner)
 
 pub scatter-particle-spec : {M : Type 1} → statement M
 scatter-particle-spec =
-    tie.close (tie.spec Inv-loop μ-loop (λ c κs. search needs) (λ c κs. search needs) (λ c κs. search needs) (λ c κs. search needs) (λ c κs. search needs) loop-holds (λ c κs. search needs) hit-column-requires (λ c. search needs) (λ c. search needs) loop-again (λ c. search needs) (λ c. search needs) returns)
+    tie.close (tie.spec Inv-loop μ-loop nearest-requires dir-requires (λ c κs. search needs) (λ c κs. search needs) (λ c κs. search needs) loop-holds (λ c κs. search needs) hit-column-requires (λ c. search needs) (λ c. search needs) loop-again (λ c. search needs) (λ c. search needs) returns)

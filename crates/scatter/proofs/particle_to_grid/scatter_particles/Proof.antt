@@ -1,6 +1,6 @@
 -- `scatter::particle_to_grid::scatter_particles` meets its contract: all particles but those left are scattered.
 -- Assumes nothing.
-use mathlib.Core.Path.{_≡_, _∙_}
+use mathlib.Core.Path.{_≡_, sym, _∙_, subst}
 use Prim.Native.Nat.{_+_, _-_, _≤_}
 use native.Mathlib.Omega.{arith}
 use borrow.Author.Needs.{needs}
@@ -12,6 +12,7 @@ use Rattle.laws.proofs.Hits.{run-none, run-left}
 use Rattle.grid.specs.Nodes.{nodeForm, nodes}
 use Rattle.particles.specs.Blocks.{cornerOf}
 use Rattle.particles.specs.Particles.{particleAt}
+use Rattle.particles.specs.Table.{OnGrid}
 use Rattle.scatter.specs.Hit.{changedFor}
 use Rattle.scatter.specs.Scatter.{blockHits, nearHits}
 use Rattle.scatter.proofs.Hitting.{among}
@@ -36,7 +37,11 @@ read-particle-requires : tie.Need-read-particle-requires Inv-loop μ-loop
 read-particle-requires c κs = (omega (arith, c .before .before .before .before .before .before .pre .0), omega (arith, c .before .before .before .before .before .before .pre .1))
 
 scatter-particle-requires : tie.Need-scatter-particle-requires Inv-loop μ-loop
-scatter-particle-requires c κs = among (now (c .before .before .before .before .before .before .before .before .before .args .block)) _ _ _ (c .before .before .before .before .before .before .before .before .before .pre .2) (c .before .before .before .before .loop .inv .1)
+scatter-particle-requires c κs =
+    let a = c .before .before .before .before .before .before .before .before .before in
+    let l = c .before .before .before .before .loop in
+    let places = among (now (a .args .block)) _ _ _ (a .pre .2) (l .inv .1) in
+    (subst (OnGrid (a .args .cell-width)) (sym (c .before .before .read-particle .ensures)) (a .pre .4 (a .args .count - l .left) (omega arith)), places .0, places .1)
 
 loop-again : tie.Need-loop-again Inv-loop μ-loop
 loop-again c =

@@ -32,6 +32,7 @@ scatter-particles-requires c κs =
       omega (arith, within, start, count, ready .particles-held .words-long),
       places .0,
       places .1,
+      λ k u. ready .accepted .on-grid _ (omega (arith, within, start, count, u)),
     )
 
 returns : tie.Need-returns
