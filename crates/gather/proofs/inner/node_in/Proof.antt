@@ -8,7 +8,7 @@ use Rattle.gather.proofs.inner.node_in.Tie as tie
 node-at-requires : tie.Need-node-at-requires
 node-at-requires c κs =
     let p = c .before .before .before .pre in
-    (is-some _ (p .3 .there _ _ (p .1) (p .2)), p .3 .places _, p .3 .held)
+    (is-some _ (search (p .3 .there, p .1, p .2)), p .3 .places _, p .3 .held)
 
 returns : tie.Need-returns
 returns c = c .node-at .ensures
