@@ -1,18 +1,20 @@
 -- `scatter::particle_to_grid::scatter_particles` meets its contract: all particles but those left are scattered.
 -- Assumes nothing.
-use mathlib.Core.Path.{_≡_, sym, _∙_, subst}
-use Prim.Native.Nat.{_+_, _-_, _≤_}
+use mathlib.Core.Path.{_≡_, sym, ap, _∙_, subst}
+use Prim.Native.Nat.{ℕ, _+_, _-_, _≤_, _<_}
 use native.Mathlib.Omega.{arith}
 use borrow.Author.Needs.{needs}
+use lib.Ieee.{Float}
 use lib.ListN.{length}
 use denote.Ref.{now}
-use Rattle.laws.specs.Store.{store, Holds}
+use Rattle.laws.specs.Store.{Store, store, Holds}
 use Rattle.laws.specs.Hits.{run, gather}
 use Rattle.laws.proofs.Hits.{run-none, run-left}
 use Rattle.grid.specs.Nodes.{nodeForm, nodes}
 use Rattle.particles.specs.Blocks.{cornerOf}
 use Rattle.particles.specs.Particles.{particleAt}
 use Rattle.particles.specs.Table.{OnGrid}
+use Rattle.particles.specs.declared.particle.Particle.{Particle}
 use Rattle.scatter.specs.Hit.{changedFor}
 use Rattle.scatter.specs.Scatter.{blockHits, nearHits}
 use Rattle.scatter.proofs.Hitting.{among}
@@ -36,12 +38,16 @@ add-read-particle c = omega (arith, c .before .before .before .before .before .b
 read-particle-requires : tie.Need-read-particle-requires Inv-loop μ-loop
 read-particle-requires c κs = (omega (arith, c .before .before .before .before .before .before .pre .0), omega (arith, c .before .before .before .before .before .before .pre .1))
 
+-- whichever of them was read
+on-grid : (h : Float) (s : Store) (start count : ℕ) → ((k : ℕ) → k < count → OnGrid h (particleAt s (start + k))) → (q : Particle) (i : ℕ) → q ≡ particleAt s i → start ≤ i → i < start + count → OnGrid h q
+on-grid h s start count each q i e l u = let at : i ≡ start + (i - start) = omega arith in subst (OnGrid h) (sym (e ∙ ap (particleAt s) at)) (each (i - start) (omega arith))
+
 scatter-particle-requires : tie.Need-scatter-particle-requires Inv-loop μ-loop
 scatter-particle-requires c κs =
     let a = c .before .before .before .before .before .before .before .before .before in
     let l = c .before .before .before .before .loop in
     let places = among (now (a .args .block)) _ _ _ (a .pre .2) (l .inv .1) in
-    (subst (OnGrid (a .args .cell-width)) (sym (c .before .before .read-particle .ensures)) (a .pre .4 (a .args .count - l .left) (omega arith)), places .0, places .1)
+    (on-grid (a .args .cell-width) _ (a .args .start) (a .args .count) (a .pre .4) _ _ (c .before .before .read-particle .ensures) (omega arith) (omega arith), places .0, places .1)
 
 loop-again : tie.Need-loop-again Inv-loop μ-loop
 loop-again c =
