@@ -8,7 +8,13 @@ const VARIABLE: &str = "MANGERKNOT_ARCHIVE_DIR";
 
 fn main() {
     let repository = PathBuf::from(env::var_os("CARGO_MANIFEST_DIR").expect("cargo names the package's folder")).join("../..");
-    let named = env::var_os(VARIABLE).map(PathBuf::from);
+    // An empty variable names nothing, as host/run has it.
+    let named = env::var_os(VARIABLE).filter(|name| !name.is_empty()).map(PathBuf::from);
+    if let Some(relative) = named.as_ref().filter(|folder| folder.is_relative()) {
+        eprintln!("The variable {} names {}, and the folder has to be absolute:", VARIABLE, relative.display());
+        eprintln!("a build script runs in another folder than whoever set it. `host/run cargo ..` makes it so.");
+        exit(1);
+    }
     let about = match named {
         Some(_) => "names that folder; without it, target/staticlib of the repository is taken",
         None => "can name another folder, where libboundary.a lies already",
