@@ -293,7 +293,12 @@ fn places_of_particles() {
         refused(8, 1, "particle 1 lies off the grid on x", [0.49999997, 1.0]),
         refused(8, 2, "particle 2 lies off the grid on y", [5.0, 65535.5]),
         refused(8, 0, "particle 0 lies off the grid on x and y", [-3.0, 1e9]),
-        refused(9, 1, "particle 1's cell is of the region with id 4096, and it stands among those of region 0 (id 0)", [5.0, 1.0]),
+        refused(
+            9,
+            1,
+            "particle 1's cell is of the region with id 4096, and it stands among those of region 0 (id 0)",
+            [5.0, 1.0],
+        ),
         refused(10, 2, "particle 2's stencil reaches the region with id 16384, which is not listed", [7.0, 1.0]),
     ]);
 }

@@ -94,9 +94,11 @@ fn gathered<'a>(
     answers.push(nodes_of(&updated));
     let moved = updated.gather_first_half(gather.eigenerosion == 1)?;
     answers.push(particles_of(&moved));
-    let moved = moved.rewrite_deformation_gradients(|place, particle| match substep.rewritten[place].map(|bits| bits.map(f32::from_bits)) {
-        Some([f00, f01, f10, f11]) => [[f00, f01], [f10, f11]],
-        None => particle.deformation_gradient,
+    let moved = moved.rewrite_deformation_gradients(|place, particle| {
+        match substep.rewritten[place].map(|bits| bits.map(f32::from_bits)) {
+            Some([f00, f01, f10, f11]) => [[f00, f01], [f10, f11]],
+            None => particle.deformation_gradient,
+        }
     });
     let given = gather.given_floats.chunks_exact(2).zip(&gather.given_words).map(|(floats, word)| ModelAnswer {
         density: f32::from_bits(floats[0]),
@@ -193,8 +195,14 @@ fn what_is_refused_can_be_tried_again() {
     let other = Sample::new(1.0, sample.particles().take(2).chain([elsewhere])).expect("as many regions, and others");
     let other = other.boundary(Handling::Stick, &[0.0], |_, point| Projection::Outside(point));
     let refused = update(&mut sample, &other).unwrap_err();
-    assert_eq!(refused.to_string(), "the boundary's projections are for other regions or cells than are listed (number 1, index 0)");
-    let wider = Sample::new(2.0, sample.particles().map(|particle| Particle { position: particle.position.map(|x| 2.0 * x), ..particle }));
+    assert_eq!(
+        refused.to_string(),
+        "the boundary's projections are for other regions or cells than are listed (number 1, index 0)"
+    );
+    let wider = Sample::new(
+        2.0,
+        sample.particles().map(|particle| Particle { position: particle.position.map(|x| 2.0 * x), ..particle }),
+    );
     let wider = wider.expect("the same regions, of wider cells");
     assert_eq!(wider.regions().ids, sample.regions().ids);
     let wider = wider.boundary(Handling::Stick, &[0.0], |_, point| Projection::Outside(point));
