@@ -8,8 +8,9 @@
 //!     judge listings SEED COUNT    so many damaged bench listings, and good ones among them, in one process: text in, text out; status 1 at the
 //!                                  first answer that is not the oracle's, in room enough and in too little
 //!     judge program SEED COUNT FILE WORDS..   the same through a program, a process each: what it prints, its status, and that it ends
-//!     judge time [REPETITIONS]     every stage and the whole substep at 1,024, 8,192 and 65,536 particles, each side by itself: medians,
-//!                                  ratios, and what a particle costs; status 1 where the sides leave different nodes or particles
+//!     judge time [REPETITIONS]     each call of the stages and the whole substep at 1,024, 8,192 and 65,536 particles, each side by
+//!                                  itself: medians, ratios, and what a particle costs; status 1 where the sides leave different nodes
+//!                                  or particles
 //!     judge once SIDE TASK PARTICLES   one row of that table on one side, once, for a program that counts instructions
 //!     judge slump [SUBSTEPS]       the powder column of host/examples under its host's law, so many substeps or all; status 1 where a
 //!                                  particle differs after any of them

@@ -1,4 +1,4 @@
-//! How long every stage and the whole substep take here and in the handed-over Rust, at three sizes, so that growth shows.
+//! How long each call of the stages and the whole substep take here and in the handed-over Rust, at three sizes, so that growth shows.
 
 use crate::archive::{self, Which};
 use mangerknot_sys::Refusal;
@@ -14,36 +14,54 @@ const SIZES: [(usize, [u32; 2]); 3] = [(1_024, [4, 4]), (8_192, [8, 8]), (65_536
 /// The colliders' frictions, of which none is so large that a velocity overflows.
 const FRICTIONS: [f32; 4] = [0.0, 0.2, 0.5, 1.0];
 
-/// What is timed, on both sides. The Rust has one call for both halves of gather, none that goes in an order, and none for three stages in
-/// one: it is asked for what comes nearest.
+/// What is timed. The Rust has no call that goes in an order, and none for three stages in one: it is asked for what comes nearest. Where
+/// nothing does, for one region and for each half of gather by itself, the port is timed alone.
 #[derive(Clone, Copy, PartialEq)]
 pub enum Task {
     Clear,
     Fluids,
     Scatter,
     InOrder,
+    Region,
     Update,
     InOne,
+    FirstHalf,
+    SecondHalf,
     Gather,
     Substep,
 }
 
-const TASKS: [(Task, &str); 8] = [
+impl Task {
+    /// Whether the Rust has it too, or something that comes near.
+    fn is_of_both(self) -> bool {
+        !matches!(self, Task::Region | Task::FirstHalf | Task::SecondHalf)
+    }
+}
+
+const TASKS: [(Task, &str); 11] = [
     (Task::Clear, "clear"),
     (Task::Fluids, "fluids' volumes"),
     (Task::Scatter, "scatter"),
     (Task::InOrder, "scatter, in an order"),
+    (Task::Region, "scatter, one region"),
     (Task::Update, "update"),
     (Task::InOne, "clear, scatter and update in one"),
+    (Task::FirstHalf, "gather, first half"),
+    (Task::SecondHalf, "gather, second half"),
     (Task::Gather, "gather, both halves"),
     (Task::Substep, "the whole substep"),
 ];
 
 /// Times each side so often, in turn, at each size; says whether both leave the same nodes and the same particles.
 pub fn run(repetitions: usize) -> bool {
-    println!("machine: {}; one thread; {} repetitions, medians; {} colliders with friction", crate::machine(), repetitions, FRICTIONS.len());
+    println!(
+        "machine: {}; one thread; {} repetitions, medians; {} colliders with friction",
+        crate::machine(),
+        repetitions,
+        FRICTIONS.len()
+    );
     println!("the port's times have its checks in them, and the Rust checks nothing");
-    println!("{:>9}  {:<33}{:>11}{:>11}{:>8}{:>13}{:>13}", "particles", "", "port ms", "Rust ms", "ratio", "port ns each", "Rust ns each");
+    print(["particles", "", "port ms", "Rust ms", "ratio", "port ns each", "Rust ns each"]);
     let same: Vec<bool> = SIZES.iter().map(|(particles, regions)| table(*particles, *regions, repetitions)).collect();
     same.into_iter().all(|same| same)
 }
@@ -57,18 +75,30 @@ fn table(particles: usize, regions: [u32; 2], repetitions: usize) -> bool {
         for ((task, _), [port, rust]) in TASKS.iter().zip(&mut times) {
             sides.put_back(*task);
             port.push(timed(|| sides.port.go(*task)));
-            rust.push(timed(|| sides.rust.go(*task)));
-            same &= sides.are_same(*task);
+            if task.is_of_both() {
+                rust.push(timed(|| sides.rust.go(*task)));
+                same &= sides.are_same(*task);
+            }
         }
     }
     for ((_, name), [port, rust]) in TASKS.iter().zip(&mut times) {
-        let [port, rust] = [median(port), median(rust)].map(|time| time.as_secs_f64());
-        let each = |time: f64| 1e9 * time / particles as f64;
-        let (ms, ratio) = ([1e3 * port, 1e3 * rust], port / rust);
-        println!("{:>9}  {:<33}{:>11.3}{:>11.3}{:>8.2}{:>13.1}{:>13.1}", particles, name, ms[0], ms[1], ratio, each(port), each(rust));
+        let [port, rust] = [median(port), median(rust)].map(|time| time.map(|time| time.as_secs_f64()));
+        let ms = |time: Option<f64>| said(time.map(|time| 1e3 * time), 3);
+        let each = |time: Option<f64>| said(time.map(|time| 1e9 * time / particles as f64), 1);
+        let ratio = said(port.zip(rust).map(|(port, rust)| port / rust), 2);
+        print([&particles.to_string(), name, &ms(port), &ms(rust), &ratio, &each(port), &each(rust)]);
     }
-    println!("{:>9}  nodes and particles after each: {}", particles, if same { "the same" } else { "DIFFERENT" });
+    println!("{:>9}  nodes and particles after each that both have: {}", particles, if same { "the same" } else { "DIFFERENT" });
     same
+}
+
+fn print([particles, name, port, rust, ratio, port_each, rust_each]: [&str; 7]) {
+    println!("{particles:>9}  {name:<33}{port:>11}{rust:>11}{ratio:>8}{port_each:>13}{rust_each:>13}");
+}
+
+/// With so many digits behind the point, where there is a number.
+fn said(number: Option<f64>, digits: usize) -> String {
+    number.map_or("-".to_string(), |number| format!("{number:.digits$}"))
 }
 
 /// One side's task once, for a program that counts what is executed in `counted`. Says whether there is such a side, task and size.
@@ -76,6 +106,9 @@ pub fn once(side: &str, task: &str, particles: usize) -> Option<bool> {
     let (task, _) = TASKS.iter().find(|(_, name)| *name == task)?;
     let (particles, regions) = SIZES.iter().find(|(size, _)| *size == particles)?;
     let is_port = ["rust", "port"].iter().position(|name| *name == side)? == 1;
+    if !is_port && !task.is_of_both() {
+        return None;
+    }
     let mut sides = Sides::new(full_call(*particles, *regions));
     sides.put_back(*task);
     sides.counted(is_port, *task);
@@ -92,8 +125,9 @@ struct Sides {
 impl Sides {
     fn new(call: Call) -> Self {
         let order = order(&call, &mut Rng::new(2));
+        let region = (call.ids.len() / 2..).find(|place| call.ranges[2 * place + 1] > 0).expect("particles");
         let rust = Rust { scene: Scene::new(&call, memory(&call)) };
-        Sides { port: Port { call: call.clone(), order }, rust, call }
+        Sides { port: Port { call: call.clone(), order, region }, rust, call }
     }
 
     /// Particles where they were, and nodes as the stage before a task leaves them.
@@ -104,13 +138,16 @@ impl Sides {
         let before: &[Task] = match task {
             // What stands on the nodes is old, as from the substep before.
             Task::Clear | Task::InOne | Task::Substep => &[Task::Clear, Task::Scatter],
-            Task::Fluids | Task::Scatter | Task::InOrder => &[Task::Clear],
+            Task::Fluids | Task::Scatter | Task::InOrder | Task::Region => &[Task::Clear],
             Task::Update => &[Task::Clear, Task::Scatter],
-            Task::Gather => &[Task::Clear, Task::Scatter, Task::Update],
+            Task::FirstHalf | Task::Gather => &[Task::Clear, Task::Scatter, Task::Update],
+            Task::SecondHalf => &[Task::Clear, Task::Scatter, Task::Update, Task::FirstHalf],
         };
         for task in before {
             self.port.go(*task);
-            self.rust.go(*task);
+            if task.is_of_both() {
+                self.rust.go(*task);
+            }
         }
     }
 
@@ -134,6 +171,8 @@ impl Sides {
 struct Port {
     call: Call,
     order: Vec<u64>,
+    /// A place in the middle of the list, with particles.
+    region: usize,
 }
 
 impl Port {
@@ -147,12 +186,12 @@ impl Port {
                 self.ask(&Which::Order(&order));
                 self.order = order;
             }
+            Task::Region => self.ask(&Which::Region(self.region)),
             Task::Update => self.ask(&Which::Update),
             Task::InOne => self.ask(&Which::Sequence),
-            Task::Gather => {
-                self.ask(&Which::FirstHalf);
-                self.ask(&Which::SecondHalf);
-            }
+            Task::FirstHalf => self.ask(&Which::FirstHalf),
+            Task::SecondHalf => self.ask(&Which::SecondHalf),
+            Task::Gather => [Task::FirstHalf, Task::SecondHalf].iter().for_each(|half| self.go(*half)),
             Task::Substep => [Task::Clear, Task::Scatter, Task::Update, Task::Gather].iter().for_each(|stage| self.go(*stage)),
         }
     }
@@ -180,6 +219,7 @@ impl Rust {
             Task::InOne => [Task::Clear, Task::Scatter, Task::Update].iter().for_each(|stage| self.go(*stage)),
             Task::Gather => self.scene.gather(),
             Task::Substep => [Task::InOne, Task::Gather].iter().for_each(|stage| self.go(*stage)),
+            Task::Region | Task::FirstHalf | Task::SecondHalf => panic!("the port's alone"),
         }
     }
 }
@@ -196,9 +236,9 @@ fn timed(work: impl FnOnce()) -> Duration {
     start.elapsed()
 }
 
-fn median(times: &mut [Duration]) -> Duration {
+fn median(times: &mut [Duration]) -> Option<Duration> {
     times.sort_unstable();
-    times[times.len() / 2]
+    times.get(times.len() / 2).copied()
 }
 
 /// A block of regions, filled evenly but for its far edges, with everyday particles, a fourth of them fluid, and points about every cell.
@@ -254,10 +294,13 @@ mod tests {
             sides.put_back(task);
             let before = sides.port.call.clone();
             sides.port.go(task);
-            sides.rust.go(task);
-            let (nodes, moved) = (sides.port.call.node_floats != before.node_floats, sides.port.particles().0 != before.particle_floats);
+            let (nodes, moved) =
+                (sides.port.call.node_floats != before.node_floats, sides.port.particles().0 != before.particle_floats);
             assert!(nodes || moved, "{} does nothing", name);
-            assert!(sides.are_same(task), "{} differs", name);
+            if task.is_of_both() {
+                sides.rust.go(task);
+                assert!(sides.are_same(task), "{} differs", name);
+            }
         }
     }
 
@@ -273,6 +316,7 @@ mod tests {
     #[test]
     fn what_is_not_there_is_not_done() {
         assert_eq!(["rust", "port"].map(|side| once(side, "clear", 1_024)), [Some(true); 2]);
+        assert_eq!(["rust", "port"].map(|side| once(side, "gather, first half", 1_024)), [None, Some(true)]);
         assert_eq!(once("port", "nothing", 1_024), None);
         assert_eq!(once("neither", "clear", 1_024), None);
         assert_eq!(once("port", "clear", 1_000), None);
@@ -281,6 +325,6 @@ mod tests {
     #[test]
     fn the_median_is_in_the_middle() {
         let of = |times: &[u64]| median(&mut times.iter().map(|time| Duration::from_secs(*time)).collect::<Vec<_>>());
-        assert_eq!([of(&[9, 1, 5]), of(&[7])], [Duration::from_secs(5), Duration::from_secs(7)]);
+        assert_eq!([of(&[9, 1, 5]), of(&[7]), of(&[])], [Some(Duration::from_secs(5)), Some(Duration::from_secs(7)), None]);
     }
 }
