@@ -81,7 +81,7 @@ module _ (h : Float) (regions : ℕ) (ids ranges : List ℕ) (count : ℕ) (q s 
   all-but-mass k =
       let hits = scatterHits h (weighed h) ids ranges q in
       ap massless (sym (reads (run nodes hits s) k))
-      ∙ Hits.laws nodes .keeps massless hits s places k (stores s places .0 (staged .ready .nodes-held)) (scatter-within h (weighed h) ids ranges q s (staged .ready))
+      ∙ Hits.laws nodes Changing.kept .keeps massless hits s places k (stores s places .0 (staged .ready .nodes-held)) (scatter-within h (weighed h) ids ranges q s (staged .ready))
       (by-particles (λ (f : GridNode → GridNode). (n : GridNode) → massless (f n) ≡ massless n) h (weighed h) ids ranges q (weighed-keeps h))
       ∙ ap massless (reads s k)
 

@@ -11,10 +11,9 @@ use Rattle.packing.specs.Values.{cells, shifts}
 use Rattle.numeric.specs.Bits.{_⊕_, _⊗_, _⊘_, none, one, two}
 use Rattle.numeric.specs.Kernel.{evalAll, precomputeWeights}
 use Rattle.numeric.specs.Round.{roundAway}
-use Rattle.laws.specs.Store.{Store, store}
+use Rattle.laws.specs.Store.{Store, store, records}
 use Rattle.laws.specs.Hits.{hit, run, gather, changes}
 use Rattle.laws.specs.Refusals as Refusals
-use Rattle.laws.proofs.Records.{records}
 use Rattle.cells.specs.Cells.{cellAssociatedToPoint}
 use Rattle.cells.specs.Stencil.{dirToAssociatedGridNode, weightOf}
 use Rattle.grid.specs.Nodes.{nodeForm, nodes}

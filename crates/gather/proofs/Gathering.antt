@@ -4,14 +4,19 @@ use mathlib.Core.List.{List}
 use Prim.Native.Nat.{ℕ, _<_}
 use native.Mathlib.Omega.{arith}
 use lib.Ieee.{Float}
-use Rattle.laws.specs.Store.{Store, Holds}
+use Rattle.laws.specs.Store.{Store, Holds, records, Laws as Kept}
 use Rattle.laws.specs.Hits.{run, changeAt, changes}
-use Rattle.laws.proofs.Records.{records}
+use Rattle.laws.proofs.Records as Records
 use Rattle.laws.proofs.Hits as Hits
 use Rattle.particles.specs.Particles.{particleForm, particleAt, putParticle, particles, reads, stores}
 use Rattle.particles.specs.declared.particle.Particle.{Particle}
 use Rattle.gather.specs.Transfer.{advanced, finished}
 use Rattle.gather.specs.Gather.{firstChange, secondChange, firstHalf, secondHalf, FirstKeeps, SecondKeeps, Laws}
+
+-- particles are kept as records of every kind are
+pub kept : Kept particles
+unfolding particles
+kept = Records.laws particleForm
 
 module _ (change : ℕ → Particle → Particle) where
   -- a particle that is read, changed and written back is hit
@@ -21,7 +26,7 @@ module _ (change : ℕ → Particle → Particle) where
 
   -- every particle is changed once, from what it held before
   pub each : (s : Store) (n : ℕ) → Holds particleForm s n → (p : ℕ) → p < n → particleAt (run particles (changes change n) s) p ≡ change p (particleAt s p)
-  each s n h p l = sym (reads (run particles (changes change n) s) p) ∙ Hits.laws particles .once change s n p (stores s n .0 h) l ∙ ap (change p) (reads s p)
+  each s n h p l = sym (reads (run particles (changes change n) s) p) ∙ Hits.laws particles kept .once change s n p (stores s n .0 h) l ∙ ap (change p) (reads s p)
 
   -- so it keeps what its change keeps
   pub each-keeps : (Keeps : Particle → Particle → Type 0) → ((p : ℕ) (q : Particle) → Keeps (change p q) q)
@@ -30,7 +35,7 @@ module _ (change : ℕ → Particle → Particle) where
 
   pub each-held : (s : Store) (n : ℕ) → Holds particleForm s n → Holds particleForm (run particles (changes change n) s) n
   unfolding changes
-  each-held s n h = stores (run particles (changes change n) s) n .1 (Hits.run-ok particles (changes change n) s n (stores s n .0 h) (Hits.changes-within particles change n n (omega arith)))
+  each-held s n h = stores (run particles (changes change n) s) n .1 (Hits.run-ok particles kept (changes change n) s n (stores s n .0 h) (Hits.changes-within particles kept change n n (omega arith)))
 
 -- what a half does not name stays
 first-keeps : (h dt : Float) (modified : ℕ) (ids : List ℕ) (nodes : Store) (q : Particle) → FirstKeeps (firstChange h ids nodes dt modified q) q

@@ -1,4 +1,4 @@
 pub mod Columns
-pub mod Ranging
 pub mod Gathering
+pub mod Ranging
 pub mod Checking

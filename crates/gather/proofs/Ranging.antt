@@ -17,13 +17,14 @@ use Rattle.particles.specs.Table.{Ready, OnGrid, Reached}
 use Rattle.particles.specs.declared.particle.Particle.{Particle}
 use Rattle.particles.proofs.Blocking as Blocking
 use Rattle.gather.specs.Gather.{Serves, Ranged, changesFrom}
+use Rattle.gather.proofs.Gathering.{kept}
 
 -- a particle that is changed at no place is as it was
 untouched : (change : ℕ → Particle → Particle) (at : ℕ → ℕ) (s : Store) (n i p : ℕ) → Holds particleForm s n → ((j : ℕ) → j < i → (at j < n) × (at j ≡ p → ⊥))
     → particleAt (run particles (gather (λ (j : ℕ). changeAt change (at j)) i) s) p ≡ particleAt s p
 untouched change at s n i p held apart =
     sym (reads (run particles (gather (λ (j : ℕ). changeAt change (at j)) i) s) p)
-    ∙ Hits.changes-elsewhere particles change at s n i p (stores s n .0 held) apart
+    ∙ Hits.changes-elsewhere particles kept change at s n i p (stores s n .0 held) apart
     ∙ reads s p
 
 -- of a region's particles the first i are changed
@@ -67,7 +68,7 @@ next-region {h} {ids} {ranges} {s₀} {s} {nodes} ready change r l e =
     let stood : (p : ℕ) → startOf ranges r ≤ p → particleAt s p ≡ particleAt s₀ p
     = λ p u. ap (λ (t : Store). particleAt t p) e ∙ untouched (λ (i : ℕ). change) (λ (j : ℕ). j) s₀ n (before ranges r) p (ready .particles-held) (λ j x. (omega arith, λ same. omega arith)) in
     let held : Holds particleForm done n
-    = stores done n .1 (Hits.run-ok particles (gather (changeAt (λ (p : ℕ). change)) (before ranges r)) s₀ n (stores s₀ n .0 (ready .particles-held)) (Hits.changes-within particles (λ (p : ℕ). change) n (before ranges r) (omega arith))) in
+    = stores done n .1 (Hits.run-ok particles kept (gather (changeAt (λ (p : ℕ). change)) (before ranges r)) s₀ n (stores s₀ n .0 (ready .particles-held)) (Hits.changes-within particles kept (λ (p : ℕ). change) n (before ranges r) (omega arith))) in
     record {
       all = n;
       whole = ready .accepted .regions .whole r l;

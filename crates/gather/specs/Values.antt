@@ -8,10 +8,9 @@ use Rattle.numeric.specs.Bits.{none, half, one, two, four}
 use Rattle.numeric.specs.Kernel.{invD, evalAll, precomputeWeights}
 use Rattle.numeric.specs.Round.{roundAway, nearestTo}
 use Rattle.numeric.specs.Scalar.{inverse, maximum, magnitude}
-use Rattle.laws.specs.Store.{Store, store}
+use Rattle.laws.specs.Store.{Store, store, records}
 use Rattle.laws.specs.Hits.{hit, run, gather, changes}
 use Rattle.laws.specs.Refusals as Refusals
-use Rattle.laws.proofs.Records.{records}
 use Rattle.cells.specs.Stencil.{dirToAssociatedGridNode}
 use Rattle.grid.specs.Table.{finite, flags, numbers, goodWidth, goodStep}
 use Rattle.grid.specs.declared.Answer.{Answer}

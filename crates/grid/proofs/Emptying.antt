@@ -5,14 +5,14 @@ use mathlib.Core.List.{List}
 use Prim.Native.Nat.{ℕ, zero, suc, _+_, _*_, _≤_, _<_}
 use native.Mathlib.Nat.{eq-or-lt-of-le}
 use native.Mathlib.Omega.{arith}
-use Rattle.laws.specs.Store.{Store, Holds}
+use Rattle.laws.specs.Store.{Store, Holds, records}
 use Rattle.laws.specs.Hits.{Hit, run, gather}
-use Rattle.laws.proofs.Records.{records, get-same, get-other}
+use Rattle.laws.proofs.Records.{get-same, get-other}
 use Rattle.laws.proofs.Hits as Hits
 use Rattle.grid.specs.Nodes.{nodeForm, nodeAt, putNode, nodes, emptyNode, regionCells}
 use Rattle.grid.specs.Clear.{emptied, cleared, Laws}
 use Rattle.grid.specs.declared.grid_node.GridNode.{GridNode}
-use Rattle.grid.proofs.Changing.{one-hit}
+use Rattle.grid.proofs.Changing.{kept, one-hit}
 
 -- a node that is written empty is emptied
 pub one : (k : ℕ) (s : Store) → putNode s k emptyNode ≡ run nodes (emptied k) s
@@ -24,7 +24,7 @@ from b j = gather (λ c. emptied (b + c)) j
 
 from-holds : (b j n : ℕ) (s : Store) → b + j ≤ n → Holds nodeForm s n → Holds nodeForm (run nodes (from b j) s) n
 unfolding nodes records
-from-holds b j n s h o = Hits.run-ok nodes (from b j) s n o (Hits.in-gather (λ k. k < n) (λ c. emptied (b + c)) j (λ i l. (omega arith, tt)))
+from-holds b j n s h o = Hits.run-ok nodes kept (from b j) s n o (Hits.in-gather (λ k. k < n) (λ c. emptied (b + c)) j (λ i l. (omega arith, tt)))
 
 -- one node is empty, and the others stay
 there : (s : Store) (n k : ℕ) → Holds nodeForm s n → k < n → nodeAt (putNode s k emptyNode) k ≡ emptyNode

@@ -7,9 +7,8 @@ use Prim.Native.Nat.{ℕ, _^_}
 use lib.ListN.{getD}
 use lib.Ieee.{nan}
 use Rattle.numeric.specs.Bits.{none}
-use Rattle.laws.specs.Store.{Store, Form, Cells, getRecord, putRecord, Holds}
+use Rattle.laws.specs.Store.{Store, Form, Cells, getRecord, putRecord, Holds, records}
 use Rattle.laws.proofs.Rows.{read-all}
-use Rattle.laws.proofs.Records.{records}
 use Rattle.grid.specs.declared.grid_node.GridNode.{GridNode}
 
 -- its floats and words, and the nodes of a region: 4 along each axis

@@ -6,7 +6,7 @@ ghost use Prim.Native.Nat.{_+_, _*_, _<_, _≤_};
 ghost use lib.Dec.{eqb};
 ghost use lib.ListN.{length};
 ghost use Rattle.laws.specs.Store.{store};
-ghost use Rattle.grid.specs.Answers.{unless};
+ghost use Rattle.grid.specs.Answers.{refuse, unless};
 ghost use Rattle.grid.specs.Nodes.{nodeFloats, nodeWords, nodeAt, putNode, emptyNode};
 ghost use Rattle.grid.specs.Table.{all, matches, nodeLengths, limits, finite, goodWidth, goodStep, called, flags, numbers, badRegion, regionIds, rangeWords, startOf, countOf, cover};
 use crate::Answer;
@@ -149,6 +149,16 @@ pub fn is_finite_vector(v: Vector) -> bool
     ensures { λ r. ⌜ r ≡ all finite (v .x ∷ v .y ∷ []) ⌝ }
 {
     is_finite(v.x) & is_finite(v.y)
+}
+
+// Refused by the rule at the index, where its condition holds.
+pub fn refuse(holds: bool, rule: Rule, index: usize) -> Answer
+    ensures { λ a. ⌜ a ≡ refuse holds rule index ⌝ }
+{
+    if holds {
+        return Answer::Refused(rule, index);
+    }
+    Answer::Done
 }
 
 // The first of two answers that refuses.

@@ -10,7 +10,7 @@ use Rattle.numeric.specs.Round.{roundAway}
 use Rattle.numeric.specs.Scalar.{inverse}
 use Rattle.laws.specs.Hits.{hit, run, gather}
 use Rattle.laws.specs.Refusals as Refusals
-use Rattle.laws.proofs.Records.{records}
+use Rattle.laws.specs.Store.{records}
 use Rattle.cells.specs.Cells.{cellAssociatedToPoint, regionAssociatedToPoint}
 use Rattle.cells.specs.Stencil.{dirToAssociatedGridNode}
 use Rattle.cells.specs.Lookup.{halved, narrowed, left, searched, lookup}

@@ -9,7 +9,7 @@ use native.Mathlib.Numerals.{add-one}
 use native.Mathlib.Omega.{arith}
 use lib.Arith.{mod-mul}
 use lib.Dec.{T, ltb, ltb→lt, eqb, eqb-refl, T-not}
-use lib.ListN.{length, getD}
+use lib.ListN.{length, length-map, getD}
 use lib.Pow.{pow-pos, shl-shr, shr-shr, split}
 use lib.Bits.{bitAnd, and-block, and-shr, and-zero-l, and-le-r, and-mask}
 use Rattle.packing.specs.Mask.{Mask, coords, packed, wrapped, sums, whole, minus, negs, below}
@@ -84,6 +84,12 @@ pub at-map : {A : Type 0} (f : A → ℕ) (d : A) (l : List A) (k : ℕ) → k <
 at-map f d [] k h = absurd (not-suc-le-zero h)
 at-map f d (x ∷ l) zero h = refl
 at-map f d (x ∷ l) (suc k) h = at-map f d l k (le-of-suc-le-suc h)
+
+-- numbers of a region's cells are below 4 for each axis
+few-numbers : (ms : List Mask) (i : ℕ) → fromFours (coords ms i) < 4 ^ length ms
+unfolding fromFours coords
+few-numbers [] i = omega arith
+few-numbers (m ∷ ms) i = rw (pow-suc 4 (length ms)) (omega (arith, few-numbers ms i))
 
 -- ---- regions as numbers
 
@@ -461,7 +467,7 @@ module _ (d : Dim) (g : Good d) where
   -- ---- together
 
   pub laws-of : Laws d
-  unfolding packedId coordinates sum minus stencilOf
+  unfolding packedId coordinates sum minus stencilOf packedShifts colour number
   laws-of =
       record {
         unpacked = back (d .axes) (g .packs);
@@ -494,4 +500,8 @@ module _ (d : Dim) (g : Good d) where
         inOrder = λ i. at-map (sum d i) 0 (packedShifts d);
         moved = region-sum;
         numbered = number-sum;
+        colours = λ r. mod-lt (r / 2 ^ 12) (pow-pos (length (d .sumAxes)));
+        numbers = few-numbers (d .sumAxes);
+        shifted = length-map (d .shifts) (packed (d .sumAxes));
+        stencils = λ i. length-map (packedShifts d) (sum d i) ∙ length-map (d .shifts) (packed (d .sumAxes));
       }

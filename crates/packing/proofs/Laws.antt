@@ -10,7 +10,7 @@ use lib.ListN.{length, getD}
 use Rattle.packing.specs.Mask.{Mask, num, count, coord, place, bits, axisSum, coords, whole, packed, below, wrapped, sums}
 use Rattle.packing.specs.Ids.{dim2, dim3, packedId, sum, region, cellOf, packedShifts, stencilOf, number, fromFours, toFours, colour}
 use Rattle.packing.specs.Neighbours.{IsCell}
-use Rattle.packing.specs.Laws.{OfMask, OfSum, Laws}
+use Rattle.packing.specs.Laws.{OfMask, OfSum, Laws, Plane}
 use Rattle.packing.proofs.Linear.{run, alike}
 use Rattle.packing.proofs.Group.{coord-place, place-coord, coord-lt, apart, fromAll, disjoint, back}
 use Rattle.packing.proofs.Sum.{place-mod, num-bits}
@@ -58,42 +58,22 @@ laws2 = laws-of dim2 good2
 pub laws3 : Laws dim3
 laws3 = laws-of dim3 good3
 
--- in 2D, where sums see every bit that packing keeps, what is packed is a cell
-pub packed2 : (cs : List ℕ) → IsCell dim2 (packedId dim2 cs)
+-- ---- of the plane
+
+packed2 : (cs : List ℕ) → IsCell dim2 (packedId dim2 cs)
 unfolding dim2 packedId
 packed2 = is-packed dim2 good2
-
--- in 2D there are 4 colours, and 16 cells in a region, whatever stray bits an id has
-pub colours2 : (r : ℕ) → colour dim2 r < 4
-unfolding colour dim2
-colours2 r = mod-lt (r / 2 ^ 12) (omega arith)
-
-pub numbers2 : (i : ℕ) → number dim2 i < 16
-unfolding number fromFours coords dim2
-numbers2 i = omega arith
-
--- and 9 cells in a stencil
-pub stencils2 : (i : ℕ) → length (stencilOf dim2 i) ≡ 9
-unfolding stencilOf packedShifts dim2
-stencils2 i = refl
-
--- for there are 9 shifts
-pub shifts2-long : length (packedShifts dim2) ≡ 9
-unfolding packedShifts dim2
-shifts2-long = refl
-
--- ---- in 2D: what is packed, by its coordinates
 
 -- 28 digits of each are kept
 kept2 : (x y : ℕ) → coords (dim2 .sumAxes) (packedId dim2 (x ∷ y ∷ [])) ≡ x % 2 ^ 28 ∷ y % 2 ^ 28 ∷ []
 unfolding packedId dim2 wrapped count
 kept2 x y = back (dim2 .axes) (good2 .packs) (x ∷ y ∷ [])
 
-pub number-packed2 : (x y : ℕ) → number dim2 (packedId dim2 (x ∷ y ∷ [])) ≡ x % 4 + 4 * (y % 4)
+number-packed2 : (x y : ℕ) → number dim2 (packedId dim2 (x ∷ y ∷ [])) ≡ x % 4 + 4 * (y % 4)
 unfolding number fromFours
 number-packed2 x y = ap fromFours (kept2 x y) ∙ omega arith
 
-pub region-packed2 : (x y : ℕ) → region (packedId dim2 (x ∷ y ∷ [])) ≡ packedId dim2 (x / 4 * 4 ∷ y / 4 * 4 ∷ [])
+region-packed2 : (x y : ℕ) → region (packedId dim2 (x ∷ y ∷ [])) ≡ packedId dim2 (x / 4 * 4 ∷ y / 4 * 4 ∷ [])
 region-packed2 x y =
     by-coords dim2 good2 (laws2 .isRegion (packed2 (x ∷ y ∷ [])) .cell) (packed2 (x / 4 * 4 ∷ y / 4 * 4 ∷ []))
     (floors (dim2 .sumAxes) (axes-of (dim2 .sumAxes) (good2 .cuts)) (packedId dim2 (x ∷ y ∷ [])) ∙ ap (map floor) (kept2 x y)
@@ -112,11 +92,19 @@ cell-of2 : (r n : ℕ) → cellOf dim2 r n ≡ sum dim2 (region r) (packedId dim
 unfolding cellOf packedId dim2 toFours
 cell-of2 r n = refl
 
+two-axes : length (dim2 .sumAxes) ≡ 2
+unfolding dim2
+two-axes = refl
+
+nine-shifts : length (dim2 .shifts) ≡ 9
+unfolding dim2
+nine-shifts = refl
+
 -- a cell by its region and its number
 cell2 : {i : ℕ} → IsCell dim2 i → i ≡ sum dim2 (region i) (packedId dim2 (number dim2 i % 4 ∷ number dim2 i / 4 ∷ []))
 cell2 {i} p =
     let n = number dim2 i in
-    let e : n / 4 % 4 ≡ n / 4 = omega (arith, numbers2 i) in
+    let e : n / 4 % 4 ≡ n / 4 = omega (arith, rw two-axes at (laws2 .numbers i)) in
     sym (laws2 .rejoined p) ∙ cell-of2 (region i) n ∙ rw (e, laws2 .isRegion p .whole)
 
 shift2 : (k : ℕ) → k < 9 → getD (packedShifts dim2) k 0 ≡ packedId dim2 (getD (dim2 .shifts) k [])
@@ -124,16 +112,28 @@ unfolding packedShifts packedId dim2
 shift2 k l = at-map (packed (dim2 .sumAxes)) [] (dim2 .shifts) k l
 
 -- the k-th cell of a stencil lies at the sum of both places from the region's first
-pub stencil2 : {i : ℕ} → IsCell dim2 i → (k x y : ℕ) → k < 9 → getD (dim2 .shifts) k [] ≡ x ∷ y ∷ []
+stencil2 : {i : ℕ} → IsCell dim2 i → (k x y : ℕ) → k < 9 → getD (dim2 .shifts) k [] ≡ x ∷ y ∷ []
     → getD (stencilOf dim2 i) k 0 ≡ sum dim2 (region i) (packedId dim2 ((number dim2 i % 4 + x) ∷ (number dim2 i / 4 + y) ∷ []))
 stencil2 {i} p k x y l e =
     let n = number dim2 i in
-    laws2 .inOrder i k (rw shifts2-long l) ∙ ap (sum dim2 i) (shift2 k l ∙ ap (packedId dim2) e)
+    laws2 .inOrder i k (rw (laws2 .shifted, nine-shifts) l) ∙ ap (sum dim2 i) (shift2 k l ∙ ap (packedId dim2) e)
     ∙ ap (λ (j : ℕ). sum dim2 j (packedId dim2 (x ∷ y ∷ []))) (cell2 p)
     ∙ laws2 .assoc (region i) (packedId dim2 (n % 4 ∷ n / 4 ∷ [])) (packedId dim2 (x ∷ y ∷ []))
     ∙ ap (sum dim2 (region i)) (sum-packed2 (n % 4) (n / 4) x y)
 
--- the shifts to a region itself and to its neighbours, of 4 cells along x, along y, and along both
-pub reach2 : (packedId dim2 (0 ∷ 0 ∷ []) ≡ 0) × (packedId dim2 (4 ∷ 0 ∷ []) ≡ 4096) × (packedId dim2 (0 ∷ 4 ∷ []) ≡ 8192) × (packedId dim2 (4 ∷ 4 ∷ []) ≡ 12288)
+-- the shifts to a region itself and to its neighbours
+reach2 : (packedId dim2 (0 ∷ 0 ∷ []) ≡ 0) × (packedId dim2 (4 ∷ 0 ∷ []) ≡ 4096) × (packedId dim2 (0 ∷ 4 ∷ []) ≡ 8192) × (packedId dim2 (4 ∷ 4 ∷ []) ≡ 12288)
 unfolding packedId dim2 packed place
 reach2 = (refl, refl, refl, refl)
+
+pub plane : Plane
+plane =
+    record {
+      axes = two-axes;
+      shifts = nine-shifts;
+      packed = packed2;
+      regionPacked = region-packed2;
+      numberPacked = number-packed2;
+      stencil = stencil2;
+      reach = reach2;
+    }

@@ -1,14 +1,14 @@
 -- What holds of ids, sums, regions, colours and stencils in each dimension. Whoever stands above this crate knows its definitions by these laws alone.
 -- Assumes nothing.
 use mathlib.Core.Path.{_≡_}
-use mathlib.Core.List.{List, _∷_}
+use mathlib.Core.List.{List, [], _∷_}
 use mathlib.Core.Logic.{_↔_}
-use Prim.Native.Nat.{ℕ, _+_, _%_, _^_, _<_}
+use Prim.Native.Nat.{ℕ, _+_, _*_, _/_, _%_, _^_, _<_}
 use lib.Bits.{bitAnd}
 use lib.Dec.{T}
 use lib.ListN.{length, getD}
 use Rattle.packing.specs.Mask.{Mask, num, count, coord, place, bits, axisSum, coords, wrapped, sums, whole, minus}
-use Rattle.packing.specs.Ids.{Dim, packedId, coordinates, sum, region, number, cellOf, colour, packedShifts, packedRegionShifts, stencilOf}
+use Rattle.packing.specs.Ids.{Dim, dim2, packedId, coordinates, sum, region, number, cellOf, colour, packedShifts, packedRegionShifts, stencilOf}
 use Rattle.packing.specs.Neighbours.{_∈_, Distinct, IsCell, IsRegion, reach, carry, Reaches, reachedBy, Common, nears, parities}
 
 -- ---- of any mask
@@ -72,3 +72,25 @@ pub record Laws (d : Dim) : Type 0 where
   -- 8. What lies at a shift from a region's first cell is in the region moved by the shift's own, and has the shift's own number there.
   pub moved : (r shift : ℕ) → region (sum d (region r) shift) ≡ sum d (region r) (region shift)
   pub numbered : (r shift : ℕ) → number d (sum d (region r) shift) ≡ number d shift
+  -- 9. There are two colours for each axis, and four cells of a region along each; a stencil has a cell for each shift. Whatever stray bits an id has.
+  pub colours : (r : ℕ) → colour d r < 2 ^ length (d .sumAxes)
+  pub numbers : (i : ℕ) → number d i < 4 ^ length (d .sumAxes)
+  pub shifted : length (packedShifts d) ≡ length (d .shifts)
+  pub stencils : (i : ℕ) → length (stencilOf d i) ≡ length (d .shifts)
+
+-- ---- of the plane
+
+pub record Plane : Type 0 where
+  -- 10. It has two axes, and 9 shifts.
+  pub axes : length (dim2 .sumAxes) ≡ 2
+  pub shifts : length (dim2 .shifts) ≡ 9
+  -- 11. What is packed is a cell: in 2D sums see every bit that packing keeps.
+  pub packed : (cs : List ℕ) → IsCell dim2 (packedId dim2 cs)
+  -- 12. Its region and its number there, by its coordinates.
+  pub regionPacked : (x y : ℕ) → region (packedId dim2 (x ∷ y ∷ [])) ≡ packedId dim2 (x / 4 * 4 ∷ y / 4 * 4 ∷ [])
+  pub numberPacked : (x y : ℕ) → number dim2 (packedId dim2 (x ∷ y ∷ [])) ≡ x % 4 + 4 * (y % 4)
+  -- 13. The k-th cell of a cell's stencil lies from the region's first cell by what the cell does and the shift, together.
+  pub stencil : {i : ℕ} → IsCell dim2 i → (k x y : ℕ) → k < 9 → getD (dim2 .shifts) k [] ≡ x ∷ y ∷ []
+      → getD (stencilOf dim2 i) k 0 ≡ sum dim2 (region i) (packedId dim2 ((number dim2 i % 4 + x) ∷ (number dim2 i / 4 + y) ∷ []))
+  -- 14. The ids by which a region is moved: not at all, along x, along y, and along both.
+  pub reach : (packedId dim2 (0 ∷ 0 ∷ []) ≡ 0) × (packedId dim2 (4 ∷ 0 ∷ []) ≡ 4096) × (packedId dim2 (0 ∷ 4 ∷ []) ≡ 8192) × (packedId dim2 (4 ∷ 4 ∷ []) ≡ 12288)

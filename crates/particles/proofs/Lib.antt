@@ -4,3 +4,4 @@ pub mod Staging
 pub mod Placing
 pub mod Blocking
 pub mod Passing
+pub mod OnAxes

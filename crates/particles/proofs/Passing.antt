@@ -14,7 +14,7 @@ use Rattle.laws.specs.Refusals as Refusals
 use Rattle.laws.proofs.Refusals as Refused
 use Rattle.laws.proofs.Rows.{lt-or-ge}
 use Rattle.packing.specs.Ids.{dim2, packedId, region, number, stencilOf}
-use Rattle.packing.proofs.Laws.{region-packed2, stencils2}
+use Rattle.packing.proofs.Laws.{plane}
 use Rattle.numeric.specs.Round.{castU32}
 use Rattle.cells.specs.Cells.{nearest, oneOff, cellAssociatedToPoint, regionAssociatedToPoint}
 use Rattle.cells.specs.Lookup.{lookup}
@@ -32,19 +32,16 @@ use Rattle.particles.specs.Places.{ofRegion, nodePlace}
 use Rattle.particles.specs.Table.{badFlag, notFinite, offGrid, outOfRegion, isAt, listed, unlisted, judged, firstParticle, outOfRegions, placed, checked, Passes, AllPass}
 use Rattle.particles.specs.Blocks.{IsBlock, cornerOf, AllThere, Stands, surrounded}
 use Rattle.particles.specs.declared.particle.Particle.{Particle}
+use Rattle.particles.proofs.Every.{all-of}
 use Rattle.particles.proofs.Blocking as Blocking
+use Rattle.particles.proofs.Placing as Placing
 
 -- ---- one particle
-
--- every entry has it, so all have
-all-of : {A : Type 0} (f : A → Bool) (d : A) (l : List A) → ((k : ℕ) → k < length l → f (getD l k d) ≡ true) → all f l ≡ true
-all-of f d [] each = refl
-all-of f d (x ∷ l) each = rw (each 0 (omega arith)) (all-of f d l (λ k u. each (suc k) (omega arith)))
 
 -- its region is the one that it stands in
 pub own : (h : Float) (x y r : ℕ) (q : Particle) → packedId dim2 (x ∷ y ∷ []) ≡ r → region r ≡ r → Stands h x y q → region (cellAssociatedToPoint dim2 h (positionOf q)) ≡ r
 unfolding cellAssociatedToPoint
-own h x y r q e w s = region-packed2 _ _ ∙ rw (s .along-x, s .along-y) (sym (region-packed2 x y)) ∙ ap region e ∙ w
+own h x y r q e w s = plane .regionPacked _ _ ∙ rw (s .along-x, s .along-y) (sym (plane .regionPacked x y)) ∙ ap region e ∙ w
 
 -- a place that is there is in a listed region
 is-listed : (ids : List ℕ) (cell : ℕ) → isAt (nodePlace ids cell) ≡ true → listed ids cell ≡ true
@@ -62,7 +59,7 @@ each-listed h ids q there =
     ap not
     (all-of (listed ids) 0 stencil
     (λ k l.
-    let u : k < 9 = rw (stencils2 (cellAssociatedToPoint dim2 h (positionOf q))) at l in
+    let u : k < 9 = rw (Placing.nine (cellAssociatedToPoint dim2 h (positionOf q))) at l in
     let at : k / 3 * 3 + k % 3 ≡ k = omega arith in
     is-listed ids (getD stencil k 0) (rw at at (there (k / 3) (k % 3) (omega arith) (omega arith)))))
 

@@ -4,19 +4,21 @@
 use mathlib.Core.Path.{_≡_}
 use mathlib.Core.Bool.{Bool, true, false, _&&_, not}
 use mathlib.Core.List.{List, [], _∷_, _++_}
+use mathlib.Core.Logic.{_⊎_, _↔_}
 use Prim.Native.Nat.{ℕ, _+_, _*_, _≤_, _<_}
 use lib.ListN.{length, getD}
 use lib.Dec.{eqb}
-use lib.Ieee.{Float}
+use lib.Ieee.{Float, nan, lt}
 use Rattle.laws.specs.Store.{Store, Holds}
 use Rattle.packing.specs.Ids.{dim2, region, stencilOf}
-use Rattle.cells.specs.Cells.{nearest, inRange, cellAssociatedToPoint, regionAssociatedToPoint}
+use Rattle.numeric.specs.Bits.{one}
+use Rattle.cells.specs.Cells.{nearest, greatestCoordinate, inRange, cellAssociatedToPoint, regionAssociatedToPoint}
 use Rattle.cells.specs.Lookup.{lookup}
 use Rattle.cells.specs.declared.Found.{Found}
 use Rattle.cells.specs.declared.Found.the-variants.{At, Absent}
 use Rattle.grid.specs.Answers.{refuse, first, firstOf}
 use Rattle.grid.specs.Nodes.{nodeForm, regionCells}
-use Rattle.grid.specs.Table.{all, lengths, nodeLengths, limits, finite, settings, isFlag, regionIds, Regions, rangeWords, startOf, countOf, cover, Covers}
+use Rattle.grid.specs.Table.{all, lengths, nodeLengths, limits, finite, goodWidth, settings, isFlag, regionIds, Regions, rangeWords, startOf, countOf, cover, Covers}
 use Rattle.grid.specs.declared.Answer.{Answer}
 use Rattle.grid.specs.declared.Rule.{Rule}
 use Rattle.grid.specs.declared.Rule.the-variants.{Length, Limit, Setting, Code, NotFinite, RegionIds, Cover, OffGrid, OutOfRegion, Unlisted}
@@ -159,3 +161,11 @@ Passes h ids r q = (rule : Rule) → judged rule h ids r q ≡ false
 -- of the n particles from p on
 abbrev pub AllPass : Float → List ℕ → ℕ → Store → ℕ → ℕ → Type 0
 AllPass h ids r s p n = (k : ℕ) → p ≤ k → k < p + n → Passes h ids r (particleAt s k)
+
+-- ---- what is proved of number 8
+
+pub record OnAxes : Type 0 where
+  -- A finite position over a width that 3 lets through is no NaN, and neither is what it is rounded to.
+  pub number : (h x : Float) → goodWidth h ≡ true → finite x ≡ true → nearest h x ≡ nan → ⊥
+  -- So a position is off the grid on an axis exactly where r is below 1 or above 65,535.
+  pub off : (h x : Float) → goodWidth h ≡ true → finite x ≡ true → (onAxis h x ≡ false) ↔ ((lt (nearest h x) one ≡ true) ⊎ (lt greatestCoordinate (nearest h x) ≡ true))

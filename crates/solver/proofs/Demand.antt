@@ -12,6 +12,7 @@ use Rattle.laws.proofs.Orders.{laws}
 use Rattle.grid.specs.Answers.{refused}
 use Rattle.grid.specs.Nodes.{nodes, regionCells, stores}
 use Rattle.grid.specs.declared.Answer.the-variants.{Done}
+use Rattle.grid.proofs.Changing.{kept}
 use Rattle.scatter.specs.Hit.{changed}
 use Rattle.scatter.specs.Scatter.{colours, regionHits, colouredHits, colourHits, scatterHits, scattered, regionScattered, scatterCheck}
 use Rattle.scatter.proofs.Checking.{ready}
@@ -38,7 +39,7 @@ same-bits order h dt gravity regions ids ranges count particles s accepted long 
     let n : length order ≡ length ids = long ∙ sym (r .counted) in
     gathered h dt gravity ids ranges particles order (length order) s
     ∙ rw n
-    (laws nodes .in-turn (colourAt ids) (placeAt order) (regionHits h (changed h dt gravity) ids ranges particles) (Hit-by h (changed h dt gravity) ids ranges particles s (r .ready)) colours (length ids)
+    (laws nodes kept .in-turn (colourAt ids) (placeAt order) (regionHits h (changed h dt gravity) ids ranges particles) (Hit-by h (changed h dt gravity) ids ranges particles s (r .ready)) colours (length ids)
     (length ids * regionCells) s (turning ids order e n) (stores s (length ids * regionCells) .0 (r .ready .nodes-held))
     (within-list h (changed h dt gravity) ids ranges particles s (r .ready)) (by-region h (changed h dt gravity) ids ranges particles s (r .ready)) (apart h (changed h dt gravity) ids ranges particles s (r .ready)))
 

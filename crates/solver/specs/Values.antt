@@ -14,10 +14,9 @@ use Rattle.numeric.specs.Bits.{none, one, two, four}
 use Rattle.numeric.specs.Kernel.{invD, evalAll, precomputeWeights}
 use Rattle.numeric.specs.Round.{roundAway}
 use Rattle.numeric.specs.Scalar.{inverse}
-use Rattle.laws.specs.Store.{Store, store}
+use Rattle.laws.specs.Store.{Store, store, records}
 use Rattle.laws.specs.Hits.{only, hit, run, gather, changes}
 use Rattle.laws.specs.Refusals as Refusals
-use Rattle.laws.proofs.Records.{records}
 use Rattle.cells.specs.Cells.{cellAssociatedToPoint, regionAssociatedToPoint}
 use Rattle.cells.specs.Stencil.{dirToAssociatedGridNode}
 use Rattle.cells.specs.Lookup.{halved, narrowed, left, searched, lookup}

@@ -10,6 +10,7 @@ use Rattle.laws.specs.Store.{Store, Holds}
 use Rattle.laws.specs.Hits.{Within, only, along, run}
 use Rattle.laws.proofs.Hits as Hits
 use Rattle.grid.specs.Nodes.{nodeForm, nodeAt, nodes, regionCells, reads, stores}
+use Rattle.grid.proofs.Changing.{kept}
 use Rattle.update.specs.Boundary.{handlingOf, knownOr}
 use Rattle.update.specs.Update.{updatedNode, updatedCell, regionUpdates, updates, updated, Zero, Laws}
 use Rattle.update.specs.declared.grid_update.BoundaryHandling.{BoundaryHandling}
@@ -53,10 +54,10 @@ laws h dt code locks ids count colliders projections s held =
     = λ r c l u.
     let k = r * regionCells + c in
     sym (reads (run nodes hits s) k)
-    ∙ Hits.laws nodes .each hits s n k ok inside
+    ∙ Hits.laws nodes kept .each hits s n k ok inside
     ∙ rw (once handling h dt colliders projections locks ids count r c l u) (ap (updatedNode handling h dt colliders projections locks ids count r c) (reads s k)) in
     record {
       each = node;
       zero-stays = λ r c l u z. subst Zero (sym (node r c l u)) (updated-zero handling h dt colliders projections locks ids count r c (nodeAt s (r * regionCells + c)) z);
-      held = stores (run nodes hits s) n .1 (Hits.laws nodes .ok hits s n ok inside);
+      held = stores (run nodes hits s) n .1 (Hits.laws nodes kept .ok hits s n ok inside);
     }

@@ -1,6 +1,6 @@
 // The numbers of the table that look at particles, and those of a call whose particles stand in listed regions.
 ghost use mathlib.Core.Path.{_≡_};
-ghost use mathlib.Core.Bool.{true};
+ghost use mathlib.Core.Bool.{true, not};
 ghost use mathlib.Core.List.{[], _∷_};
 ghost use Prim.Native.Nat.{ℕ, _+_, _*_, _≤_, _<_};
 ghost use lib.ListN.{length, getD};
@@ -8,13 +8,16 @@ ghost use Rattle.laws.specs.Store.{store};
 ghost use Rattle.packing.specs.Ids.{dim2, region};
 ghost use Rattle.cells.specs.Cells.{inRange};
 ghost use Rattle.grid.specs.Table.{all, matches, finite, Regions, rangeWords, startOf, countOf, Covers};
+ghost use Rattle.grid.specs.Answers.{refuse};
 ghost use Rattle.grid.specs.declared.Answer.the-variants.{Done};
+ghost use Rattle.grid.specs.declared.Rule.the-variants.{Unlisted};
 ghost use Rattle.particles.specs.Particles.{particleFloats, particleWords, particleAt};
 ghost use Rattle.particles.specs.Blocks.{blockCells, cornerOf, AllThere, Stands};
 ghost use Rattle.particles.specs.Table.{particleLengths, badFlag, notFinite, onAxis, offGrid, outOfRegion, listed, unlisted, judged, firstParticle, outOfRegions, placed, checked, stageCheck, OnGrid, AllPass};
 use crate::inner::blocks::BLOCK_SIDE;
 use crate::inner::blocks::block_of;
 use crate::inner::blocks::corner_of;
+use crate::inner::blocks::found_at;
 use crate::inner::blocks::is_surrounded;
 use crate::inner::read_particle;
 use crate::particle::PARTICLE_FLOATS;
@@ -35,6 +38,7 @@ use grid::inner::fits;
 use grid::inner::holds_nodes;
 use grid::inner::is_finite;
 use grid::inner::is_finite_vector;
+use grid::inner::refuse;
 use numeric::dim2::Matrix;
 use numeric::dim2::Vector;
 use packing::dim2::Cell;
@@ -251,9 +255,9 @@ fn are_there(block: &[usize], corner: usize) -> bool
 {
     let mut k = 0;
     while k < 9 {
-        if block[corner + (k % 3 + BLOCK_SIDE * (k / 3))] == 0 {
+        let Found::At(_) = found_at(block[corner + (k % 3 + BLOCK_SIDE * (k / 3))]) else {
             return false;
-        }
+        };
         k += 1;
     }
     true
@@ -333,25 +337,26 @@ pub fn first_particle(
     let mut left = count;
     while 0 < left {
         let p = start + count - left;
-        if is_refused(rule, h, ids, region, read_particle(pf, pw, p)) {
-            return Answer::Refused(rule, p);
-        }
+        let a = judge(rule, h, ids, region, read_particle(pf, pw, p), p);
+        let Answer::Done = a else {
+            return a;
+        };
         left -= 1;
     }
     Answer::Done
 }
 
-// Whether a rule refuses a particle; rules that look at something else refuse none.
-pub fn is_refused(rule: Rule, h: f32, ids: &[u64], region: u64, q: Particle) -> bool
-    ensures { λ r. ⌜ r ≡ judged rule h (now (ids .entry)) region q ⌝ }
+// What a rule answers for the particle at a place; rules that look at something else refuse none.
+fn judge(rule: Rule, h: f32, ids: &[u64], region: u64, q: Particle, p: usize) -> Answer
+    ensures { λ a. ⌜ a ≡ refuse (judged rule h (now (ids .entry)) region q) rule p ⌝ }
 {
     match rule {
-        Rule::Code => has_bad_flag(q),
-        Rule::NotFinite => is_not_finite(q),
-        Rule::OffGrid => is_off_grid(h, q),
-        Rule::OutOfRegion => is_out_of_region(h, region, q),
-        Rule::Unlisted => is_unlisted(h, ids, q),
-        _ => false,
+        Rule::Code => refuse(has_bad_flag(q), Rule::Code, p),
+        Rule::NotFinite => refuse(is_not_finite(q), Rule::NotFinite, p),
+        Rule::OffGrid => refuse(is_off_grid(h, q), Rule::OffGrid, p),
+        Rule::OutOfRegion => refuse(is_out_of_region(h, region, q), Rule::OutOfRegion, p),
+        Rule::Unlisted => check_stencil(h, ids, q, p),
+        _ => Answer::Done,
     }
 }
 
@@ -422,33 +427,24 @@ fn is_out_of_region(h: f32, region: u64, q: Particle) -> bool
     cells::dim2::region_associated_to_point(h, q.position) != region
 }
 
-// Whether a region of the particle's stencil is not in the list.
-fn is_unlisted(h: f32, ids: &[u64], q: Particle) -> bool
-    ensures { λ r. ⌜ r ≡ unlisted h (now (ids .entry)) q ⌝ }
+// Number 10 of the particle at a place: every region of its stencil is listed.
+fn check_stencil(h: f32, ids: &[u64], q: Particle, p: usize) -> Answer
+    ensures { λ a. ⌜ a ≡ refuse (unlisted h (now (ids .entry)) q) Unlisted p ⌝ }
 {
     let stencil = packing::dim2::stencil(cells::dim2::cell_associated_to_point(h, q.position));
-    !are_listed(ids, &stencil)
+    check_cells(ids, &stencil, p)
 }
 
-// Whether the region of each cell is in the list.
-fn are_listed(ids: &[u64], cell_ids: &[u64]) -> bool
-    ensures { λ r. ⌜ r ≡ all (listed (now (ids .entry))) (now («cell_ids» .entry)) ⌝ }
+// The place of each cell's region is taken from the list, or the particle is refused.
+fn check_cells(ids: &[u64], cell_ids: &[u64], p: usize) -> Answer
+    ensures { λ a. ⌜ a ≡ refuse (not (all (listed (now (ids .entry))) (now («cell_ids» .entry)))) Unlisted p ⌝ }
 {
     let mut k = 0;
     while k < cell_ids.len() {
-        if !is_listed(ids, cell_ids[k]) {
-            return false;
-        }
+        let Found::At(_) = cells::lookup(ids, packing::region_of(cell_ids[k])) else {
+            return Answer::Refused(Rule::Unlisted, p);
+        };
         k += 1;
     }
-    true
-}
-
-fn is_listed(ids: &[u64], cell_id: u64) -> bool
-    ensures { λ r. ⌜ r ≡ listed (now (ids .entry)) «cell_id» ⌝ }
-{
-    let Found::At(_) = cells::lookup(ids, packing::region_of(cell_id)) else {
-        return false;
-    };
-    true
+    Answer::Done
 }
