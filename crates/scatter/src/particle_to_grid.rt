@@ -21,6 +21,7 @@ ghost use Rattle.scatter.specs.Scatter.{onNode, regionHits, columnHits, 
 use crate::inner::check_scatter;
 use crate::inner::scatter_all;
 use crate::inner::scatter_at;
+use cells::Found;
 use cells::inner::STENCIL_SIDE;
 use cells::inner::dir_to_associated_grid_node;
 use cells::inner::dpt;
@@ -41,6 +42,7 @@ use packing::dim2::Cell;
 use particles::inner::blocks::BLOCK_SIDE;
 use particles::inner::blocks::block_of;
 use particles::inner::blocks::corner_of;
+use particles::inner::blocks::found_at;
 use particles::inner::read_particle;
 use particles::particle::Particle;
 
@@ -312,7 +314,7 @@ fn hit_column(
     }
 }
 
-// The node at a place, which a block numbers from 1 on. Its region is listed, as the check has shown; of another there would be none.
+// The node at a place, as a block numbers it. Its region is listed, as the check has shown; of another there is none, and nothing is hit.
 fn hit(
     cell_width: f32,
     place: usize,
@@ -326,10 +328,9 @@ fn hit(
     requires { ⌜ (w ≡ precomputeWeights (axes dir) «cell_width») × (shift .x < 3) × (shift .y < 3) × (place ≤ length (now nw)) × Holds nodeForm (store (now nf) (now nw)) (length (now nw)) ⌝ }
     ensures { λ _. ⌜ store (now (nf .exit)) (now (nw .exit)) ≡ run nodes (onNode (foundAt place) (changedBy «cell_width» (axes dir) load (shift .x ∷ shift .y ∷ []))) (store (now (nf .entry)) (now (nw .entry))) ⌝ }
 {
-    if place == 0 {
+    let Found::At(k) = found_at(place) else {
         return;
-    }
-    let k = place - 1;
+    };
     let n = read_node(nf, nw, k);
     write_node(nf, nw, k, unload(cell_width, dir, load, w, shift, n));
 }
