@@ -11,6 +11,7 @@ ghost use Rattle.particles.specs.Particles.{particleFloats, particleWords};
 ghost use Rattle.gather.specs.Gather.{nodeFound, Serves, givenLengths, firstCheck, recordsCheck, secondCheck};
 use crate::grid_to_particle::GIVEN_FLOATS;
 use crate::grid_to_particle::GIVEN_WORDS;
+use cells::Found;
 use grid::Answer;
 use grid::Rule;
 use grid::grid_node::GridNode;
@@ -18,12 +19,14 @@ use grid::inner::check_call;
 use grid::inner::check_flags;
 use grid::inner::check_limits;
 use grid::inner::check_numbers;
+use grid::inner::empty;
 use grid::inner::first_refusal;
 use grid::inner::fits;
 use grid::inner::is_step;
 use grid::inner::is_width;
 use grid::inner::read_node;
 use particles::inner::blocks::BLOCK_SIDE;
+use particles::inner::blocks::found_at;
 use particles::inner::checks::check_stage;
 use particles::inner::checks::first_particle;
 use particles::inner::checks::holds_particles;
@@ -47,12 +50,15 @@ pub fn node_in(
     )
 }
 
-// The node at a place of a block, which numbers them from 1 on. There is one, as the check has shown.
+// The node at a place, as a block numbers it. Its region is listed, as the check has shown; of another there is none, which is as an empty one.
 fn node_at(place: usize, nf: &[f32], nw: &[u32]) -> GridNode
-    requires { ⌜ (0 < place) × (place ≤ length (now nw)) × Holds nodeForm (store (now nf) (now nw)) (length (now nw)) ⌝ }
+    requires { ⌜ (place ≤ length (now nw)) × Holds nodeForm (store (now nf) (now nw)) (length (now nw)) ⌝ }
     ensures { λ r. ⌜ r ≡ nodeFound (store (now (nf .entry)) (now (nw .entry))) (foundAt place) ⌝ }
 {
-    read_node(nf, nw, place - 1)
+    let Found::At(k) = found_at(place) else {
+        return empty();
+    };
+    read_node(nf, nw, k)
 }
 
 pub(crate) fn check_first_half(
