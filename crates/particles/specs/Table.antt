@@ -113,12 +113,17 @@ checked h ids ranges s n =
 
 -- ---- a stage: a call that is given particles in listed regions, and the nodes of these
 
+-- its lengths in 1, each beside what the counts ask
+abbrev pub stageLengths : ℕ → List ℕ → List ℕ → ℕ → Store → ℕ → ℕ → List (ℕ × ℕ)
+stageLengths regions ids ranges count particles nf nw =
+    (length ids, regions) ∷ (length ranges, regions * rangeWords) ∷ particleLengths count (length (particles .floats)) (length (particles .words)) ++ nodeLengths regions nf nw
+
 -- 1 to 10; of the nodes, only how many floats and words there are. `good` says of each of its settings in 3 whether it is good, `own` is what is found of its own in 4, ahead of
 -- records.
 abbrev pub stageCheck : List Bool → Answer → Float → ℕ → List ℕ → List ℕ → ℕ → Store → ℕ → ℕ → Answer
 stageCheck good own h regions ids ranges count particles nf nw =
     first (
-    lengths ((length ids, regions) ∷ (length ranges, regions * rangeWords) ∷ particleLengths count (length (particles .floats)) (length (particles .words)) ++ nodeLengths regions nf nw)
+    lengths (stageLengths regions ids ranges count particles nf nw)
     ∷ limits regions count 0
     ∷ settings good
     ∷ own

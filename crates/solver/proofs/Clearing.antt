@@ -19,17 +19,19 @@ use Rattle.grid.proofs.Lengths.{clear-held}
 use Rattle.particles.specs.Table.{Ready}
 use Rattle.particles.proofs.Staging.{still-ready}
 use Rattle.scatter.specs.Hit.{changed}
-use Rattle.scatter.specs.Scatter.{scattered, regionScattered, placeCheck, scatterCheck}
+use Rattle.scatter.specs.Scatter.{scattered, regionScattered, placeCheck, scatterCheck, stencilId, nodeId}
 use Rattle.scatter.proofs.Checking.{ready, region-ready}
 use Rattle.scatter.proofs.Clearing.{counted}
+use Rattle.scatter.proofs.Missing.{unreached}
 use Rattle.scatter.proofs.Scattering.{scatter-laws, region-laws}
 use Rattle.update.specs.Update.{updated, updateCheck, Zero}
 use Rattle.update.proofs.Updating as Updating
 use Rattle.fluids.specs.Fluids.{nodesAfter, fluidsCheck}
 use Rattle.fluids.proofs.Recomputing as Recomputing
-use Rattle.solver.specs.Clearing.{Call, Scatter, Fluids, answer, made, left, after, stencilId, nodeId, Reaches, Reached, stepCheck, stepped, EmptyElsewhere, Demand2}
-use Rattle.solver.specs.Clearing.Call.{clearing, scattering, scatteringRegion, scatteringInOrder, updating, inTurn, gatheringFirst, gatheringSecond, recomputing}
-use Rattle.solver.proofs.Missing.{missed, region-missed}
+use Rattle.solver.specs.Step.{stepCheck, stepped}
+use Rattle.solver.specs.Calls.{Call, Scatter, Fluids, answer, made, left, after}
+use Rattle.solver.specs.Clearing.{Reaches, Reached, EmptyElsewhere, Demand2}
+use Rattle.solver.specs.Calls.Call.{clearing, scattering, scatteringRegion, scatteringInOrder, updating, inTurn, gatheringFirst, gatheringSecond, recomputing}
 use Rattle.solver.proofs.Stepping.{apart-done, step-done}
 use Rattle.solver.proofs.Turning.{turned}
 
@@ -56,9 +58,10 @@ module _ (ids : List ℕ) (r c : ℕ) (l : r < length ids) (u : c < regionCells)
   unfolding scattered
   kept-scatter g s kept e other =
       let q = ready Done (g .h) (g .dt) (g .gravity) (g .regions) ids (g .ranges) (g .count) (g .particles) (s .floats) (s .words) (ap refused e) in
-      let laws = scatter-laws (g .h) (changed (g .h) (g .dt) (g .gravity)) ids (g .ranges) (g .particles) s (q .ready) in
-      let miss = missed (g .h) (changed (g .h) (g .dt) (g .gravity)) ids (g .ranges) (g .particles) s (q .ready) r c u (λ p k v. other p k (omega (arith, v, q .held .floats-long, q .ready .particles-held .floats-long))) in
-      record { held = laws .held; zero = subst Zero (sym (laws .untouched (r * regionCells + c) miss)) (kept .zero) }
+      record {
+        held = scatter-laws (g .h) (changed (g .h) (g .dt) (g .gravity)) ids (g .ranges) (g .particles) s (q .ready) .held;
+        zero = subst Zero (sym (unreached .full (g .h) (g .dt) (g .gravity) (g .regions) ids (g .ranges) (g .count) (g .particles) s e r c u other)) (kept .zero);
+      }
 
   kept-update : (h dt : Float) (code locks count : ℕ) (colliders : List Float) (projections s : Store) → Kept s → Kept (updated h dt code locks ids count colliders projections s)
   kept-update h dt code locks count colliders projections s kept =
@@ -161,10 +164,14 @@ module _ (ids : List ℕ) (r c : ℕ) (l : r < length ids) (u : c < regionCells)
       kept-scatter ids r c l u g s kept e (λ p k v w i. other (record { accepted = e; particle = p; shift = k; served = v; within = w; there = i }))
   kept-made (scatteringRegion place g) s kept e other =
       let q = region-ready place (placeCheck place (g .regions)) Done (g .h) (g .dt) (g .gravity) (g .regions) ids (g .ranges) (g .count) (g .particles) (s .floats) (s .words) refl (sym e) refl in
-      let laws = region-laws (g .h) (changed (g .h) (g .dt) (g .gravity)) ids (g .ranges) (g .particles) s (q .1 .ready) place (q .0) in
-      let miss = region-missed (g .h) (changed (g .h) (g .dt) (g .gravity)) ids (g .ranges) (g .particles) place r c u
-      (λ p k v w x i. other (record { accepted = e; particle = p; shift = k; served = (v, w); within = x; there = i })) in
-      record { held = laws .held; zero = subst Zero (sym (laws .untouched (r * regionCells + c) miss)) (kept .zero) }
+      record {
+        held = region-laws (g .h) (changed (g .h) (g .dt) (g .gravity)) ids (g .ranges) (g .particles) s (q .1 .ready) place (q .0) .held;
+        zero = subst Zero
+            (sym
+            (unreached .region place (g .h) (g .dt) (g .gravity) (g .regions) ids (g .ranges) (g .count) (g .particles) s e r c u
+            (λ p k v w x i. other (record { accepted = e; particle = p; shift = k; served = (v, w); within = x; there = i }))))
+            (kept .zero);
+      }
   kept-made (scatteringInOrder order g) s kept e other =
       kept-scatter ids r c l u g s kept
       (turned order (g .h) (g .dt) (g .gravity) (g .regions) ids (g .ranges) (g .count) (g .particles) (length (s .floats)) (length (s .words)) e .accepted)

@@ -1,4 +1,5 @@
 pub mod Clearing
-pub mod Demand
+pub mod Ordering
 pub mod Stepping
 pub mod Turning
+pub mod OneByOne

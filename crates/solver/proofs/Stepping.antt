@@ -21,7 +21,7 @@ use Rattle.particles.proofs.Every.{every-append}
 use Rattle.scatter.specs.Scatter.{scatterCheck}
 use Rattle.scatter.proofs.Clearing.{each-done, all-done, each, each-holds, all-hold, fits, limited, holds, counts, scatter-lengths, scatter-settings, of-scatter, of-particles, ids-placed, clear-done}
 use Rattle.update.specs.Update.{colliderFloats, projectionFloats, projectionLengths, given, ownCheck, updateCheck}
-use Rattle.solver.specs.Clearing.{recordsCheck, stepCheck}
+use Rattle.solver.specs.Step.{recordsCheck, stepCheck}
 
 module _ (h dt : Float) (gravity : List Float) (code locks regions : ℕ) (ids ranges : List ℕ) (count : ℕ) (particles : Store) (colliders : ℕ) (frictions : List Float) (projections : Store) (nf nw : ℕ) where
   abbrev update-lengths : List (ℕ × ℕ)

@@ -1,9 +1,9 @@
 -- What an order that is not refused has shown, and one region more. Assumes nothing.
 use mathlib.Core.Path.{_≡_, refl, sym, ap, _∙_}
-use mathlib.Core.Bool.{Bool, true, false, _||_, not, true≢false}
+use mathlib.Core.Bool.{Bool, true, false, _&&_, _||_, not, and-true, true≢false}
 use mathlib.Core.Logic.{⊎-elim}
-use mathlib.Core.List.{List, [], _∷_, _++_}
-use Prim.Native.Nat.{ℕ, zero, suc, _+_, _*_, _-_, _≤_, _<_}
+use mathlib.Core.List.{List, [], _∷_}
+use Prim.Native.Nat.{ℕ, zero, suc, _+_, _-_, _≤_, _<_}
 use native.Mathlib.Nat.{add-zero, eq-or-lt-of-le}
 use native.Mathlib.Numerals.{add-one}
 use native.Mathlib.Omega.{arith}
@@ -11,22 +11,23 @@ use lib.Dec.{eqb, ltb}
 use lib.Ieee.{Float}
 use lib.ListN.{length, getD}
 use borrow.Author.Tests.{eqb-true, eqb-false, ltb-true, ltb-false, lt-ltb, le-ltb, eq-eqb, ne-eqb}
-use Rattle.packing.proofs.Laws.{colours2}
+use Rattle.packing.proofs.Laws.{laws2, plane}
 use Rattle.laws.specs.Store.{Store, store}
 use Rattle.laws.specs.Orders.{InTurn}
 use Rattle.laws.specs.Refusals as Refusals
 use Rattle.laws.proofs.Refusals as Refused
 use Rattle.grid.specs.Answers.{refused, refuse, unless}
-use Rattle.grid.specs.Table.{all, finite, goodWidth, goodStep, lengths, nodeLengths, limits, settings, rangeWords}
+use Rattle.grid.specs.Table.{all, finite, goodWidth, goodStep, lengths, limits, settings, called}
 use Rattle.grid.specs.declared.Answer.{Answer}
 use Rattle.grid.specs.declared.Answer.the-variants.{Done, Refused}
 use Rattle.grid.specs.declared.Rule.the-variants.{Length, Code}
 use Rattle.grid.proofs.Answers.{unless-end, refuse-passed, not-false, lengths-passed}
 use Rattle.grid.proofs.Lengths.{and-split}
-use Rattle.particles.specs.Table.{particleLengths, checked, Ready}
+use Rattle.grid.proofs.Steps.{called-own, unless-assoc}
+use Rattle.particles.specs.Table.{checked, stageLengths, stageCheck, Ready}
+use Rattle.particles.proofs.Staging.{fitting, check-is}
 use Rattle.scatter.specs.Scatter.{colours, regionScattered, scatterCheck, placeCheck}
 use Rattle.scatter.proofs.Checking.{ready}
-use Rattle.scatter.proofs.Scattering.{acceptance}
 use Rattle.solver.specs.Order.{placeAt, colourAt, repeated, goesBack, outOfTurn, turns, orderCheck, inOrder}
 
 -- ---- the check
@@ -52,7 +53,7 @@ pub other-own : (own other : Answer) (h dt : Float) (gravity : List Float) (regi
 unfolding scatterCheck
 other-own own other h dt gravity regions ids ranges count particles nf nw e o =
     other-fourth
-    (lengths ((length ids, regions) ∷ (length ranges, regions * rangeWords) ∷ particleLengths count (length (particles .floats)) (length (particles .words)) ++ nodeLengths regions nf nw))
+    (lengths (stageLengths regions ids ranges count particles nf nw))
     (limits regions count 0)
     (settings (goodWidth h ∷ goodStep dt ∷ all finite gravity ∷ []))
     own (unless (checked h ids ranges particles count) Done) other e o
@@ -63,13 +64,28 @@ pub too-long : (order : List ℕ) (h dt : Float) (gravity : List Float) (regions
 unfolding orderCheck
 too-long order h dt gravity regions ids ranges count particles nf nw n = rw (ne-eqb (length order) regions n)
 
--- and of the others the scatter's check, that of the turns in it, says all
-pub then-scatter : (own a : Answer) (order : List ℕ) (h dt : Float) (gravity : List Float) (regions : ℕ) (ids ranges : List ℕ) (count : ℕ) (particles : Store) (nf nw : ℕ)
-    → length order ≡ regions → own ≡ turns ids order → a ≡ scatterCheck own h dt gravity regions ids ranges count particles nf nw
-    → a ≡ orderCheck order h dt gravity regions ids ranges count particles nf nw
+-- one of its own length in the steps in which the code goes: the lists, the order, the particles
+pub in-steps : (order : List ℕ) (h dt : Float) (gravity : List Float) (regions : ℕ) (ids ranges : List ℕ) (count : ℕ) (particles : Store) (nf nw : ℕ) → length order ≡ regions
+    → orderCheck order h dt gravity regions ids ranges count particles nf nw
+    ≡ unless (called (fitting regions ids ranges count particles nf nw) (limits regions count 0) (goodWidth h && (goodStep dt && all finite gravity)) Done) (unless (turns ids order) (checked h ids ranges particles count))
+unfolding orderCheck scatterCheck
+in-steps order h dt gravity regions ids ranges count particles nf nw l =
+    let fit = fitting regions ids ranges count particles nf nw in
+    let lim = limits regions count 0 in
+    let good = goodWidth h ∷ goodStep dt ∷ all finite gravity ∷ [] in
+    let set = goodWidth h && (goodStep dt && all finite gravity) in
+    let rest = checked h ids ranges particles count in
+    rw (eq-eqb (length order) regions l)
+    (unless-end (stageCheck good (turns ids order) h regions ids ranges count particles nf nw)
+    ∙ check-is regions ids ranges count particles nf nw good (turns ids order) h
+    ∙ rw (and-true (all finite gravity)) (ap (λ (a : Answer). unless a rest) (called-own fit lim set (turns ids order)) ∙ unless-assoc (called fit lim set Done) (turns ids order) rest))
+
+-- an order that stands in turn is accepted where the scatter is
+pub then-scatter : (order : List ℕ) (h dt : Float) (gravity : List Float) (regions : ℕ) (ids ranges : List ℕ) (count : ℕ) (particles : Store) (nf nw : ℕ)
+    → length order ≡ regions → turns ids order ≡ Done → scatterCheck Done h dt gravity regions ids ranges count particles nf nw ≡ Done
+    → orderCheck order h dt gravity regions ids ranges count particles nf nw ≡ Done
 unfolding orderCheck
-then-scatter own a order h dt gravity regions ids ranges count particles nf nw l o e =
-    e ∙ rw (o, eq-eqb (length order) regions l) (sym (unless-end (scatterCheck (turns ids order) h dt gravity regions ids ranges count particles nf nw)))
+then-scatter order h dt gravity regions ids ranges count particles nf nw l t e = rw (eq-eqb (length order) regions l, t, e)
 
 pub record Turned (order : List ℕ) (h dt : Float) (gravity : List Float) (regions : ℕ) (ids ranges : List ℕ) (count : ℕ) (particles : Store) (nf nw : ℕ) : Type 0 where
   pub as-long : length order ≡ regions
@@ -144,7 +160,7 @@ module _ (ids order : List ℕ) (e : turns ids order ≡ Done) where
         ascending = λ i j l u.
             let d : i + (j - i) ≡ j = omega arith in
             rw d at (climbs i (j - i) (omega (arith, n)));
-        coloured = λ r l. colours2 (getD ids r 0);
+        coloured = λ r l. rw (plane .axes) at (laws2 .colours (getD ids r 0));
       }
 
 -- and any order that is one is let through
@@ -177,8 +193,7 @@ region-accepted order h dt gravity regions ids ranges count particles s t i e f 
     let counted = ready Done h dt gravity regions ids ranges count particles (s .floats) (s .words) (ap refused (turn .accepted)) .counted in
     let there : placeAt order i < regions = omega (arith, place ids order (turn .in-turn) i l, counted) in
     let own : placeCheck (placeAt order i) regions ≡ Done = rw (lt-ltb (placeAt order i) regions there) in
-    acceptance .by-lengths (placeCheck (placeAt order i) regions) h dt gravity regions ids ranges count particles t s f w
-    ∙ other-own Done (placeCheck (placeAt order i) regions) h dt gravity regions ids ranges count particles (length (s .floats)) (length (s .words)) (turn .accepted) own .1
+    rw (f, w) (other-own Done (placeCheck (placeAt order i) regions) h dt gravity regions ids ranges count particles (length (s .floats)) (length (s .words)) (turn .accepted) own .1)
 
 -- what is behind the check of each may build on that of the order
 pub turn-ready : (order : List ℕ) (h dt : Float) (gravity : List Float) (regions : ℕ) (ids ranges : List ℕ) (count : ℕ) (particles : Store) (nf : List Float) (nw : List ℕ)

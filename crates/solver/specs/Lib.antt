@@ -1,3 +1,6 @@
 pub mod Order
+pub mod Step
+pub mod Calls
 pub mod Clearing
+pub mod OneByOne
 pub mod Values

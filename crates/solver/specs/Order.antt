@@ -1,5 +1,5 @@
--- Demand 3 of the request: "for 2D lists and particles that the full scatter accepts, scattering regions one by one, each once, colours 0 to 3 in turn, regions inside a
--- colour in any order, leaves from the same starting nodes exactly the bits that demand 2 defines for the full scatter". Definitions, and what is proved of them.
+-- An order of the regions by their places: each once, colours 0 to 3 in turn. What a scatter in an order is refused for, and the regions' scatters one after the other.
+-- Definitions, and what is proved of them.
 -- Assumes nothing.
 use mathlib.Core.Path.{_≡_}
 use mathlib.Core.Bool.{Bool, false, _||_, not}
@@ -57,18 +57,18 @@ module _ (h dt : Float) (gravity : List Float) (ids ranges : List ℕ) (particle
   inOrder zero s = s
   inOrder (suc n) s = regionScattered h dt gravity ids ranges particles (placeAt order n) (inOrder n s)
 
--- ---- what is proved: demand 3
+-- ---- what is proved of it
 
-pub record Demand3 : Type 0 where
+pub record Laws : Type 0 where
   -- What is not refused is an order in which each region stands once and colours come in turn, and every such order is not refused.
   pub turn : (ids order : List ℕ) → length order ≡ length ids → turns ids order ≡ Done → InTurn (colourAt ids) (placeAt order) colours (length ids)
   pub every-turn : (ids order : List ℕ) → length order ≡ length ids → InTurn (colourAt ids) (placeAt order) colours (length ids) → turns ids order ≡ Done
-  -- The regions one by one leave what the full scatter leaves.
+  -- In such an order they leave what the full scatter leaves.
   pub same-bits : (order : List ℕ) (h dt : Float) (gravity : List Float) (regions : ℕ) (ids ranges : List ℕ) (count : ℕ) (particles s : Store)
       → scatterCheck Done h dt gravity regions ids ranges count particles (length (s .floats)) (length (s .words)) ≡ Done
       → length order ≡ regions → turns ids order ≡ Done
       → inOrder h dt gravity ids ranges particles order (length order) s ≡ scattered h dt gravity ids ranges particles s
-  -- Each of the calls is accepted, whatever the nodes hold by then.
+  -- The call of each region is accepted, whatever the nodes hold by then.
   pub each-accepted : (order : List ℕ) (h dt : Float) (gravity : List Float) (regions : ℕ) (ids ranges : List ℕ) (count : ℕ) (particles s t : Store) (i : ℕ)
       → orderCheck order h dt gravity regions ids ranges count particles (length (s .floats)) (length (s .words)) ≡ Done
       → length (t .floats) ≡ length (s .floats) → length (t .words) ≡ length (s .words) → i < length order

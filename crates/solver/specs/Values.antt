@@ -28,7 +28,7 @@ use Rattle.grid.specs.declared.Rule.the-variants.{Length, Setting, Code}
 use Rattle.particles.specs.Particles as Particles
 use Rattle.particles.specs.Places.{nodePlace}
 use Rattle.particles.specs.Table.{badFlag, notFinite, onAxis, offGrid, outOfRegion, unlisted, judged, firstParticle, outOfRegions, placed, checked}
-use Rattle.scatter.specs.Scatter.{shiftHits, particleHits, rangeHits, regionHits, colouredHits, colourHits, scatterHits, scattered, massScattered, scatterCheck, placeCheck}
+use Rattle.scatter.specs.Scatter.{shiftHits, particleHits, rangeHits, regionHits, colouredHits, colourHits, scatterHits, scattered, massScattered, scatterCheck, placeCheck, stencilId, nodeId}
 use Rattle.scatter.specs.Hit.{brought, hitBy, hitNode, changed, weighedNode, weighed}
 use Rattle.update.specs.Boundary.{handled, collided}
 use Rattle.update.specs.Update.{lockedNode, afterColliders, updatedNode, regionUpdates, updates, updated}
@@ -37,7 +37,7 @@ use Rattle.fluids.specs.Fluids as Fluids
 use Rattle.fluids.specs.Fluids.{withVolume, volumes, particlesAfter, nodesAfter, fluidsCheck}
 use Rattle.gather.specs.Gather.{overCells, nodeOfCell, taken, firstChange, firstHalf, firstCheck}
 use Rattle.solver.specs.Order.{repeated, outOfTurn, turns, orderCheck}
-use Rattle.solver.specs.Clearing.{stencilId, nodeId, recordsCheck, stepCheck, stepped}
+use Rattle.solver.specs.Step.{recordsCheck, stepCheck, stepped}
 
 abbrev many : {A : Type 0} → ℕ → A → List A
 many zero x = []

@@ -14,8 +14,12 @@ ghost use Rattle.scatter.specs.Scatter.{scattered};
 ghost use Rattle.solver.specs.Order.{placeAt, colourAt, repeated, outOfTurn, turns, orderCheck, inOrder};
 use grid::Answer;
 use grid::Rule;
+use grid::inner::is_finite_vector;
+use grid::inner::is_step;
+use grid::inner::is_width;
 use numeric::dim2::Vector;
-use scatter::inner::check_scatter;
+use particles::inner::checks::check_lists;
+use particles::inner::checks::check_particles;
 use scatter::inner::scatter_at;
 
 // The regions one by one, in an order of their places: each once, colours 0 to 3 in turn. It leaves what the full scatter leaves; or the call is refused, and nothing changes.
@@ -36,11 +40,8 @@ pub fn scatter_in_order(
     ensures { λ a. ⌜ (a ≡ orderCheck (now (order .entry)) «cell_width» dt (axes gravity) regions (now (ids .entry)) (now (ranges .entry)) particles (store (now (pf .entry)) (now (pw .entry))) (length (now (nf .entry))) (length (now (nw .entry))))
         × (store (now (nf .exit)) (now (nw .exit)) ≡ settle (refused a) (store (now (nf .entry)) (now (nw .entry))) (scattered «cell_width» dt (axes gravity) (now (ids .entry)) (now (ranges .entry)) (store (now (pf .entry)) (now (pw .entry))) (store (now (nf .entry)) (now (nw .entry))))) ⌝ }
 {
-    if order.len() != regions {
-        return Answer::Refused(Rule::Length, 0);
-    }
-    let a = check_scatter(
-        check_order(order, ids),
+    let a = check_in_order(
+        order,
         cell_width,
         dt,
         gravity,
@@ -58,6 +59,48 @@ pub fn scatter_in_order(
     };
     scatter_regions(order, cell_width, dt, gravity, ids, ranges, pf, pw, nf, nw);
     Answer::Done
+}
+
+// What the call is refused for. The order is looked at once 1 and 2 are decided, as it takes the square of its length.
+fn check_in_order(
+    order: &[u64],
+    cell_width: f32,
+    dt: f32,
+    gravity: Vector,
+    regions: usize,
+    ids: &[u64],
+    ranges: &[u64],
+    particles: usize,
+    pf: &[f32],
+    pw: &[u32],
+    nf: usize,
+    nw: usize,
+) -> Answer
+    ensures { λ a. ⌜ a ≡ orderCheck (now (order .entry)) «cell_width» dt (axes gravity) regions (now (ids .entry)) (now (ranges .entry)) particles (store (now (pf .entry)) (now (pw .entry))) nf nw ⌝ }
+{
+    if order.len() != regions {
+        return Answer::Refused(Rule::Length, 0);
+    }
+    let a = check_lists(
+        is_width(cell_width) & (is_step(dt) & is_finite_vector(gravity)),
+        Answer::Done,
+        regions,
+        ids,
+        ranges,
+        particles,
+        pf,
+        pw,
+        nf,
+        nw,
+    );
+    let Answer::Done = a else {
+        return a;
+    };
+    let b = check_order(order, ids);
+    let Answer::Done = b else {
+        return b;
+    };
+    check_particles(cell_width, ids, ranges, pf, pw, particles)
 }
 
 // What the regions' own calls would make behind their checks, of which none would refuse.

@@ -7,13 +7,13 @@ ghost use lib.ListN.{length, getD};
 ghost use Rattle.laws.specs.Store.{store};
 ghost use Rattle.packing.specs.Ids.{dim2, region};
 ghost use Rattle.cells.specs.Cells.{inRange};
-ghost use Rattle.grid.specs.Table.{all, matches, finite, Regions, rangeWords, startOf, countOf, Covers};
+ghost use Rattle.grid.specs.Table.{all, matches, limits, finite, called, Regions, rangeWords, startOf, countOf, Covers};
 ghost use Rattle.grid.specs.Answers.{refuse};
 ghost use Rattle.grid.specs.declared.Answer.the-variants.{Done};
 ghost use Rattle.grid.specs.declared.Rule.the-variants.{Unlisted};
 ghost use Rattle.particles.specs.Particles.{particleFloats, particleWords, particleAt};
 ghost use Rattle.particles.specs.Blocks.{blockCells, cornerOf, AllThere, Stands};
-ghost use Rattle.particles.specs.Table.{particleLengths, badFlag, notFinite, onAxis, offGrid, outOfRegion, listed, unlisted, judged, firstParticle, outOfRegions, placed, checked, stageCheck, OnGrid, AllPass};
+ghost use Rattle.particles.specs.Table.{particleLengths, badFlag, notFinite, onAxis, offGrid, outOfRegion, listed, unlisted, judged, firstParticle, outOfRegions, placed, checked, stageLengths, stageCheck, OnGrid, AllPass};
 use crate::inner::blocks::BLOCK_SIDE;
 use crate::inner::blocks::block_of;
 use crate::inner::blocks::corner_of;
@@ -66,18 +66,47 @@ pub fn check_stage(
 ) -> Answer
     ensures { λ a. ⌜ a ≡ stageCheck (settings ∷ []) own h regions (now (ids .entry)) (now (ranges .entry)) particles (store (now (pf .entry)) (now (pw .entry))) nf nw ⌝ }
 {
-    let a = check_call(
+    let a = check_lists(
+        settings,
+        own,
+        regions,
+        ids,
+        ranges,
+        particles,
+        pf,
+        pw,
+        nf,
+        nw,
+    );
+    let Answer::Done = a else {
+        return a;
+    };
+    check_particles(h, ids, ranges, pf, pw, particles)
+}
+
+// Numbers 1 to 3 of a stage, and what is found of its own in 4. No record is looked at, so that lists of any length are refused at once.
+pub fn check_lists(
+    settings: bool,
+    own: Answer,
+    regions: usize,
+    ids: &[u64],
+    ranges: &[u64],
+    particles: usize,
+    pf: &[f32],
+    pw: &[u32],
+    nf: usize,
+    nw: usize,
+) -> Answer
+    ensures { λ a. ⌜ a ≡ called (matches (stageLengths regions (now (ids .entry)) (now (ranges .entry)) particles (store (now (pf .entry)) (now (pw .entry))) nf nw)) (limits regions particles 0) settings own ⌝ }
+{
+    check_call(
         (ids.len() == regions)
             & (fits(ranges.len(), regions, RANGE_WORDS)
                 & (holds_particles(particles, pf.len(), pw.len()) & holds_nodes(regions, nf, nw))),
         check_limits(regions, particles, 0),
         settings,
         own,
-    );
-    let Answer::Done = a else {
-        return a;
-    };
-    check_particles(h, ids, ranges, pf, pw, particles)
+    )
 }
 
 // Numbers 4 to 10 of a call that takes particles in listed regions.

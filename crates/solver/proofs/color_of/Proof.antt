@@ -7,7 +7,7 @@ use native.Mathlib.Omega.{arith}
 use borrow.Author.Needs.{needs}
 use borrow.Author.Tests.{eqb-true, eqb-false}
 use lib.Dec.{eqb}
-use Rattle.packing.proofs.Laws.{colours2}
+use Rattle.packing.proofs.Laws.{laws2, plane}
 use Rattle.solver.proofs.color_of.Statement.{statement}
 use Rattle.solver.proofs.color_of.Tie as tie
 
@@ -26,7 +26,7 @@ left-over x l a b c = omega (arith, l, eqb-false x 0 a, eqb-false x 1 b, eqb-fal
 
 returns-4 : tie.Need-returns-4
 returns-4 c =
-    left-over _ (colours2 _) (sym (c .before .before .before .before .before .is-in-region-with-color .ensures) ∙ c .before .before .before .before .if1 .left) (sym (c .before .before .before .is-in-region-with-color2 .ensures) ∙ c .before .before .if2 .left)
+    left-over _ (rw (plane .axes) at (laws2 .colours (c .before .before .before .before .before .before .args .region-id))) (sym (c .before .before .before .before .before .is-in-region-with-color .ensures) ∙ c .before .before .before .before .if1 .left) (sym (c .before .before .before .is-in-region-with-color2 .ensures) ∙ c .before .before .if2 .left)
     (sym (c .before .is-in-region-with-color3 .ensures) ∙ c .if3 .left)
 
 pub color-of-spec : {M : Type 1} → statement M

@@ -1,6 +1,6 @@
 -- `solver::scatter_in_order` meets its contract.
 -- Assumes nothing.
-use mathlib.Core.Path.{refl, sym, _∙_}
+use mathlib.Core.Path.{sym, _∙_}
 use borrow.Author.Needs.{needs}
 use lib.ListN.{length}
 use denote.Ref.{now}
@@ -8,39 +8,33 @@ use Rattle.numeric.specs.Axes.{axes}
 use Rattle.laws.specs.Store.{store}
 use Rattle.laws.proofs.Refusals.{settle-old}
 use Rattle.grid.proofs.Answers.{stops}
-use Rattle.solver.proofs.Demand.{same-bits}
-use Rattle.solver.proofs.Turning.{too-long, then-scatter, turned, turn-ready}
+use Rattle.solver.proofs.Ordering.{same-bits}
+use Rattle.solver.proofs.Turning.{turned, turn-ready}
 use Rattle.solver.proofs.scatter_in_order.Statement.{statement}
 use Rattle.solver.proofs.scatter_in_order.Tie as tie
 
 returns : tie.Need-returns
-returns c = (too-long _ _ _ _ _ _ _ _ _ _ _ (c .if1 .taken), refl)
-
-returns-2 : tie.Need-returns-2
-returns-2 c = (
-  then-scatter _ _ _ _ _ _ _ _ _ _ _ _ _ (c .before .before .before .before .if1 .left) (c .before .before .before .check-order .ensures) (c .before .before .check-scatter .ensures),
-  settle-old _ _ _ (stops (c .before .before .check-scatter .result) (c .before .match .keys2)),
-)
+returns c = (c .before .before .check-in-order .ensures, settle-old _ _ _ (stops (c .before .before .check-in-order .result) (c .before .match .keys2)))
 
 scatter-regions-requires : tie.Need-scatter-regions-requires
 scatter-regions-requires c κs =
-    let g = c .before .before .before .before .before .before .before .before .before .before .before .before .before .before .args in
+    let g = c .before .before .before .before .before .before .before .before .before .before .before .before .args in
     turn-ready (now (g .order)) (g .cell-width) (g .dt) (axes (g .gravity)) (g .regions) (now (g .ids)) (now (g .ranges)) (g .particles) (store (now (g .pf)) (now (g .pw))) (now (g .nf)) (now (g .nw))
-    (sym (then-scatter _ _ _ _ _ _ _ _ _ _ _ _ _ (c .before .before .before .before .before .before .if1 .left) (c .before .before .before .before .before .check-order .ensures) (c .before .before .before .before .check-scatter .ensures)) ∙ c .before .before .enum-told .given .1)
+    (sym (c .before .before .before .before .check-in-order .ensures) ∙ c .before .before .enum-told .given .1)
 
-returns-3 : tie.Need-returns-3
-returns-3 c =
-    let g = c .before .before .before .before .before .before .before .before .before .before .before .before .before .before .before .before .before .before .before .args in
+returns-2 : tie.Need-returns-2
+returns-2 c =
+    let g = c .before .before .before .before .before .before .before .before .before .before .before .before .before .before .before .before .before .args in
     let order = now (g .order) in
     let ids = now (g .ids) in
     let ranges = now (g .ranges) in
     let particles = store (now (g .pf)) (now (g .pw)) in
     let nf = now (g .nf) in
     let nw = now (g .nw) in
-    let done = sym (c .before .before .before .before .before .before .before .enum-told .given .1) ∙ then-scatter _ _ order (g .cell-width) (g .dt) (axes (g .gravity)) (g .regions) ids ranges (g .particles) particles (length nf) (length nw) (c .before .before .before .before .before .before .before .before .before .before .before .if1 .left) (c .before .before .before .before .before .before .before .before .before .before .check-order .ensures) (c .before .before .before .before .before .before .before .before .before .check-scatter .ensures) in
-    let t = turned order (g .cell-width) (g .dt) (axes (g .gravity)) (g .regions) ids ranges (g .particles) particles (length nf) (length nw) (sym done) in
-    (done, c .before .before .before .before .scatter-regions .ensures ∙ same-bits order (g .cell-width) (g .dt) (axes (g .gravity)) (g .regions) ids ranges (g .particles) particles (store nf nw) (t .accepted) (t .as-long) (t .in-turn))
+    let done = sym (c .before .before .before .before .before .before .before .before .before .check-in-order .ensures) ∙ c .before .before .before .before .before .before .before .enum-told .given .1 in
+    let t = turned order (g .cell-width) (g .dt) (axes (g .gravity)) (g .regions) ids ranges (g .particles) particles (length nf) (length nw) done in
+    (sym done, c .before .before .before .before .scatter-regions .ensures ∙ same-bits order (g .cell-width) (g .dt) (axes (g .gravity)) (g .regions) ids ranges (g .particles) particles (store nf nw) (t .accepted) (t .as-long) (t .in-turn))
 
 pub scatter-in-order-spec : {M : Type 1} → statement M
 scatter-in-order-spec =
-    tie.close (tie.spec returns (λ c κs. search needs) (λ c κs. search needs) (λ c. search needs) (λ c. search needs) returns-2 scatter-regions-requires (λ c. search needs) (λ c. search needs) returns-3)
+    tie.close (tie.spec (λ c κs. search needs) (λ c. search needs) (λ c. search needs) returns scatter-regions-requires (λ c. search needs) (λ c. search needs) returns-2)

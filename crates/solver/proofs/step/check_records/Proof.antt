@@ -14,7 +14,7 @@ use Rattle.grid.proofs.Answers.{unless-end}
 use Rattle.particles.specs.Table.{firstParticle, placed, checked}
 use Rattle.scatter.proofs.Clearing.{each-done}
 use Rattle.update.specs.Update.{colliderFloats, projectionFloats}
-use Rattle.solver.specs.Clearing.{recordsCheck}
+use Rattle.solver.specs.Step.{recordsCheck}
 use Rattle.solver.proofs.step.check_records.Statement.{statement}
 use Rattle.solver.proofs.step.check_records.Tie as tie
 

@@ -1,4 +1,4 @@
--- Demand 3: the regions one by one, in an order in which each stands once and colours come in turn, leave what the full scatter leaves. Assumes nothing.
+-- The regions' scatters in an order in which each stands once and colours come in turn leave what the full scatter leaves. Assumes nothing.
 use mathlib.Core.Path.{_≡_, refl, sym, ap, _∙_}
 use mathlib.Core.List.{List}
 use Prim.Native.Nat.{ℕ, zero, suc, _*_}
@@ -17,7 +17,7 @@ use Rattle.scatter.specs.Hit.{changed}
 use Rattle.scatter.specs.Scatter.{colours, regionHits, colouredHits, colourHits, scatterHits, scattered, regionScattered, scatterCheck}
 use Rattle.scatter.proofs.Checking.{ready}
 use Rattle.scatter.proofs.Reaching.{Hit-by, by-region, within-list, apart}
-use Rattle.solver.specs.Order.{placeAt, colourAt, turns, inOrder, Demand3}
+use Rattle.solver.specs.Order.{placeAt, colourAt, turns, inOrder, Laws}
 use Rattle.solver.proofs.Turning.{turning, let-through, region-accepted}
 
 -- ---- the calls, one after the other, are their regions' hits
@@ -43,5 +43,5 @@ same-bits order h dt gravity regions ids ranges count particles s accepted long 
     (length ids * regionCells) s (turning ids order e n) (stores s (length ids * regionCells) .0 (r .ready .nodes-held))
     (within-list h (changed h dt gravity) ids ranges particles s (r .ready)) (by-region h (changed h dt gravity) ids ranges particles s (r .ready)) (apart h (changed h dt gravity) ids ranges particles s (r .ready)))
 
-pub demand3 : Demand3
-demand3 = record { turn = λ ids order n e. turning ids order e n; every-turn = let-through; same-bits = same-bits; each-accepted = region-accepted }
+pub order-laws : Laws
+order-laws = record { turn = λ ids order n e. turning ids order e n; every-turn = let-through; same-bits = same-bits; each-accepted = region-accepted }
