@@ -4,6 +4,7 @@ ghost use mathlib.Core.List.{[], _∷_};
 ghost use Prim.Native.Nat.{_*_, _≤_, _<_};
 ghost use lib.ListN.{length};
 ghost use Rattle.laws.specs.Store.{store, Holds};
+ghost use Rattle.cells.specs.declared.Found.the-variants.{At};
 ghost use Rattle.grid.specs.Nodes.{nodeForm};
 ghost use Rattle.grid.specs.Table.{isFlag, codes, matches};
 ghost use Rattle.particles.specs.Blocks.{foundAt, placeAt};
@@ -19,7 +20,6 @@ use grid::inner::check_call;
 use grid::inner::check_flags;
 use grid::inner::check_limits;
 use grid::inner::check_numbers;
-use grid::inner::empty;
 use grid::inner::first_refusal;
 use grid::inner::fits;
 use grid::inner::is_step;
@@ -50,15 +50,24 @@ pub fn node_in(
     )
 }
 
-// The node at a place, as a block numbers it. Its region is listed, as the check has shown; of another there is none, which is as an empty one.
-fn node_at(place: usize, nf: &[f32], nw: &[u32]) -> GridNode
-    requires { ⌜ (place ≤ length (now nw)) × Holds nodeForm (store (now nf) (now nw)) (length (now nw)) ⌝ }
-    ensures { λ r. ⌜ r ≡ nodeFound (store (now (nf .entry)) (now (nw .entry))) (foundAt place) ⌝ }
+// The node at a place, as a block numbers it.
+fn node_at(number: usize, nf: &[f32], nw: &[u32]) -> GridNode
+    requires { ⌜ (0 < number) × (number ≤ length (now nw)) × Holds nodeForm (store (now nf) (now nw)) (length (now nw)) ⌝ }
+    ensures { λ r. ⌜ r ≡ nodeFound (store (now (nf .entry)) (now (nw .entry))) (foundAt number) ⌝ }
 {
-    let Found::At(k) = found_at(place) else {
-        return empty();
+    read_node(nf, nw, place_of(number))
+}
+
+// The place that a number of a block stands for. There is one, as the check has shown, so that no call comes to the else arm; it is a place and no node, which would cost a
+// branch at each of the nine.
+fn place_of(number: usize) -> usize
+    requires { ⌜ 0 < number ⌝ }
+    ensures { λ r. ⌜ foundAt number ≡ At r ⌝ }
+{
+    let Found::At(k) = found_at(number) else {
+        return 0;
     };
-    read_node(nf, nw, k)
+    k
 }
 
 pub(crate) fn check_first_half(

@@ -1,4 +1,4 @@
--- `gather::inner::node_at` meets its contract: where there is a node, and where there is none.
+-- `gather::inner::node_at` meets its contract: the number stands for a place of the nodes.
 -- Assumes nothing.
 use mathlib.Core.Path.{sym, ap, _∙_}
 use native.Mathlib.Omega.{arith}
@@ -11,12 +11,12 @@ use Rattle.gather.proofs.inner.node_at.Statement.{statement}
 use Rattle.gather.proofs.inner.node_at.Tie as tie
 
 read-node-requires : tie.Need-read-node-requires
-read-node-requires c κs = omega (arith, one-more (c .before .before .before .before .before .before .args .place) (c .before .k .given .0 .0) (sym (c .before .before .before .found-at .ensures) ∙ c .before .k .given .1))
+read-node-requires c κs = omega (arith, one-more (c .before .before .before .args .number) (c .place-of .result) (c .place-of .ensures))
 
-returns-2 : tie.Need-returns-2
-returns-2 c =
-    let g = c .before .before .before .before .before .before .before .args in
-    c .read-node .ensures ∙ ap (nodeFound (store (now (g .nf)) (now (g .nw)))) (sym (c .before .before .k .given .1) ∙ c .before .before .before .before .found-at .ensures)
+returns : tie.Need-returns
+returns c =
+    let g = c .before .before .before .before .args in
+    c .read-node .ensures ∙ ap (nodeFound (store (now (g .nf)) (now (g .nw)))) (sym (c .before .place-of .ensures))
 
 pub node-at-spec : {M : Type 1} → statement M
-node-at-spec = tie.close (tie.spec (λ c κs. search needs) (λ c. search needs) (λ c. search needs) (λ c κs. search needs) (λ c. search needs) read-node-requires returns-2)
+node-at-spec = tie.close (tie.spec (λ c κs. search needs) read-node-requires returns)
