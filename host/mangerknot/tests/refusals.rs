@@ -80,14 +80,14 @@ fn lengths() {
     };
     check(vec![
         refused(WITH_PARTICLES, "the regions' starts and counts", 5, 4, |call| call.ranges.push(0)),
-        refused("sroq12f", "the particles' floats", 77, 78, |call| drop(call.particle_floats.pop())),
+        refused("sroq12f", "the particles' floats", 77, 78, |call| call.particle_floats.truncate(77)),
         refused("sroq12f", "the particles' words", 13, 12, |call| call.particle_words.push(0)),
         refused("2", "the given floats", 7, 6, |call| call.gather.given_floats.push(0)),
-        refused("2", "the given words", 2, 3, |call| drop(call.gather.given_words.pop())),
-        refused("uq", "the projections' floats", 127, 128, |call| drop(call.boundary.points.pop())),
+        refused("2", "the given words", 2, 3, |call| call.gather.given_words.truncate(2)),
+        refused("uq", "the projections' floats", 127, 128, |call| call.boundary.points.truncate(127)),
         refused("uq", "the projections' words", 65, 64, |call| call.boundary.insides.push(0)),
         refused("csrouq1f", "the nodes' floats", 225, 224, |call| call.node_floats.push(0)),
-        refused("csrouq1f", "the nodes' words", 31, 32, |call| drop(call.node_words.pop())),
+        refused("csrouq1f", "the nodes' words", 31, 32, |call| call.node_words.truncate(31)),
     ]);
     let short = answer_as_raw(&Which::Order(&[0]), &good()).0.unwrap_err();
     assert_eq!(short.to_string(), "the order's entries are 1, and have to be 2 (number 1, index 0)");

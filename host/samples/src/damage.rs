@@ -533,7 +533,9 @@ mod tests {
             let count = texts.iter().filter(|text| changed(text, &mut rng)).count();
             assert!(count >= 15, "damage {} changes {} of 60", kind, count);
             for text in [&b""[..], b"\n", b"w", b"\n\n\n", b"\t\t", b"\xFF\n\0"] {
-                (0..50).for_each(|_| drop(changed(&text.to_vec(), &mut rng)));
+                for _ in 0..50 {
+                    changed(&text.to_vec(), &mut rng);
+                }
             }
         }
     }

@@ -16,4 +16,4 @@ slice-aggregate-write-all c = let f = c .before .finish .ensures in sym (length-
 
 pub main-spec : {M : Type 1} → statement M
 main-spec =
-    tie.close (tie.spec (λ c κs. search needs) (λ c κs. search needs) array-share-prefix-page slice-aggregate-write-all (λ c κs. search needs) (λ c. search needs))
+    tie.close (tie.spec (λ c κs. search needs) (λ c. search needs) (λ c. search needs) (λ c. search needs) (λ c κs. search needs) array-share-prefix-page slice-aggregate-write-all (λ c κs. search needs) (λ c. search needs) (λ c κs. search needs) (λ c. search needs) (λ c. search needs))

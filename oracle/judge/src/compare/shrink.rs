@@ -60,7 +60,7 @@ impl<D: Fn(&Asked) -> bool> Shrinking<D> {
             (|asked| asked.call.particle_words.len() / PARTICLE_WORDS, without_particle),
             (|asked| asked.call.ids.len(), without_region),
             (|asked| asked.call.boundary.frictions.len(), without_collider),
-            (|asked| asked.order.len(), |asked, place| drop(asked.order.remove(place))),
+            (|asked| asked.order.len(), |asked, place| drop(asked.order.drain(place..=place))),
         ];
         for (count, without) in removals {
             let mut piece = count(&self.smallest);
