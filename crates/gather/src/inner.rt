@@ -58,14 +58,14 @@ fn node_at(number: usize, nf: &[f32], nw: &[u32]) -> GridNode
     read_node(nf, nw, place_of(number))
 }
 
-// The place that a number of a block stands for. There is one, as the check has shown, so that no call comes to the else arm; it is a place and no node, which would cost a
-// branch at each of the nine.
+// The place that a number of a block stands for. There is one, as the check has shown, so that no call comes to the else arm. What that answers is what the number of a place
+// would, or each of the nine nodes would cost a branch.
 fn place_of(number: usize) -> usize
     requires { ⌜ 0 < number ⌝ }
     ensures { λ r. ⌜ foundAt number ≡ At r ⌝ }
 {
     let Found::At(k) = found_at(number) else {
-        return 0;
+        return std::num::wrapping_sub_usize(number, 1);
     };
     k
 }

@@ -16,10 +16,10 @@ never zero l e = omega arith
 never (suc n) l e = true≢false (ap isAt e)
 
 returns : tie.Need-returns
-returns c = absurd (never _ (c .before .before .before .pre) (sym (c .before .before .found-at .ensures) ∙ c .enum-told .given .1))
+returns c = absurd (never _ (c .before .before .before .before .pre) (sym (c .before .before .before .found-at .ensures) ∙ c .before .enum-told .given .1))
 
 returns-2 : tie.Need-returns-2
 returns-2 c = sym (c .before .before .before .found-at .ensures) ∙ c .before .k .given .1
 
 pub place-of-spec : {M : Type 1} → statement M
-place-of-spec = tie.close (tie.spec (λ c κs. search needs) (λ c. search needs) (λ c. search needs) returns returns-2)
+place-of-spec = tie.close (tie.spec (λ c κs. search needs) (λ c. search needs) (λ c. search needs) (λ c κs. search needs) returns returns-2)
