@@ -1,6 +1,6 @@
 -- What an f32's pattern says of it: the number, in units of 2 ^ -149, the smallest f32; the sign; and whether it is a NaN or a zero. Assumes nothing.
 use mathlib.Core.Path.{_≡_, refl, sym, ap, _∙_, subst}
-use mathlib.Core.Bool.{Bool, true, false, not, _&&_, cond, true≢false, false≢true}
+use mathlib.Core.Bool.{Bool, true, false, not, cond, true≢false, false≢true}
 use Prim.Native.Nat.{ℕ, zero, suc, _+_, _-_, _*_, _/_, _%_, _^_, _≤_, _<_}
 use native.Mathlib.Nat.{mul-one, one-mul, zero-mul, mul-pos, mul-div-cancel, mod-eq-of-lt, pow-succ', zero-lt-suc, lt-irrefl, le-of-lt}
 use native.Mathlib.Omega.{arith}
@@ -8,9 +8,9 @@ use borrow.Author.Tests.{lt-leb, le-ltb, ltb-true, ltb-false, ne-eqb}
 use lib.IntN.{ℤ, pos, negsuc}
 use lib.Arith.{digits-div, digits-mod}
 use lib.Dec.{T, leb, eqb, ltb, eqb→eq}
-use lib.Ieee.{Float, nan, inf, fin, binary32, binary64, up, down, size, odd, units, round, fits, isNan, neg, lt, eq, ne, div, ofFields, ofBits, toBits, nanBits}
-use lib.Ieee.Fits.{up-pos, down-pos, round-is, and-i, fits-widens}
-use lib.Ieee.Bits.{ofBits-toBits, ofBits-fits, nanBits-is, nanBits-above}
+use lib.Ieee.{Float, nan, inf, fin, binary32, up, down, size, odd, units, round, fits, isNan, neg, lt, eq, ne, div, ofFields, ofBits, toBits, nanBits}
+use lib.Ieee.Fits.{up-pos, down-pos, round-is}
+use lib.Ieee.Bits.{ofBits-toBits, nanBits-is, nanBits-above}
 use lib.Ieee.Compare.{differs-from-itself}
 use lib.Ieee.Exact.{HasValue, odd-sign}
 use Rattle.numeric.specs.Bits.{none, _⊘_, fieldUnits, patternUnits}
@@ -39,10 +39,6 @@ no-nan (fin s m e) h = refl
 -- A pattern below the infinity's is no NaN's.
 pub no-nan-bits : (b : ℕ) → b < 2139095040 → nanBits binary32 b ≡ false
 no-nan-bits b h = let l : b < 2147483648 = omega arith in nanBits-above binary32 b ∙ rw (mod-eq-of-lt l) (le-ltb 2139095040 b (le-of-lt h))
-
--- Its number is an f64 too.
-pub widens : (b : ℕ) → b < 2139095040 → T (fits binary64 (ofBits binary32 b) && not (isNan (ofBits binary32 b)))
-widens b h = and-i (fits binary64 (ofBits binary32 b)) (not (isNan (ofBits binary32 b))) (fits-widens (ofBits binary32 b) (ofBits-fits binary32 b)) (no (sym (nanBits-is binary32 b) ∙ no-nan-bits b h))
 
 -- A NaN's pattern gives the one NaN.
 pub nan-pattern : (b : ℕ) → nanBits binary32 b ≡ true → ofBits binary32 b ≡ nan

@@ -1,9 +1,8 @@
 -- Vectors as lists, an entry an axis, and matrices as lists of rows, so that the plane and space share each definition; and the plane's structs as such lists.
 -- Definitions only.
 use mathlib.Core.List.{List, [], _∷_, map}
-use Prim.Native.Nat.{ℕ, zero, suc}
 use lib.Ieee.{Float, nan}
-use lib.ListN.{length, getD}
+use lib.ListN.{getD}
 use Rattle.numeric.specs.Bits.{_⊗_, none, one}
 use Rattle.numeric.specs.Kernel.{dot}
 use Rattle.numeric.specs.declared.dim2.Vector.{Vector}
@@ -31,14 +30,15 @@ identity (row ∷ rows) = (one ∷ map (λ (r : List Float). none) rows) ∷ map
 abbrev pub outer : List Float → List Float → List (List Float)
 outer u w = map (λ (x : Float). map (λ (y : Float). x ⊗ y) w) u
 
--- the n columns of a matrix from the j-th on
-abbrev pub columns : ℕ → ℕ → List (List Float) → List (List Float)
-columns zero j m = []
-columns (suc n) j m = map (λ (row : List Float). getD row j nan) m ∷ columns n (suc j) m
+-- the columns of a matrix
+abbrev pub columns : List (List Float) → List (List Float)
+columns [] = []
+columns (row ∷ []) = map (λ (x : Float). x ∷ []) row
+columns (row ∷ next ∷ rows) = pairwise _∷_ row (columns (next ∷ rows))
 
 -- a·b, each entry the product of a row of a and a column of b
 abbrev pub matrixProduct : List (List Float) → List (List Float) → List (List Float)
-matrixProduct a b = map (λ (row : List Float). map (dot row) (columns (length b) 0 b)) a
+matrixProduct a b = map (λ (row : List Float). map (dot row) (columns b)) a
 
 -- ---- in the plane
 

@@ -52,12 +52,13 @@ whole = (refl, refl, refl)
 
 -- ---- matrices, by rows
 
--- (1 2; 0 1)·(1 0; 2 1) is (5 2; 2 1); (1 2)ᵀ·(2 1) is (2 1; 4 2); the identity of two rows
+-- (1 2; 0 1)·(1 0; 2 1) is (5 2; 2 1), and (1 2)·(2 1 0; 0 0 1) is (2 1 2); (1 2)ᵀ·(2 1) is (2 1; 4 2); the identity of two rows
 matrices : (map (map bits) (matrixProduct ((one ∷ two ∷ []) ∷ (none ∷ one ∷ []) ∷ []) ((one ∷ none ∷ []) ∷ (two ∷ one ∷ []) ∷ [])) ≡ (0x40a00000 ∷ 0x40000000 ∷ []) ∷ (0x40000000 ∷ 0x3f800000 ∷ []) ∷ [])
+    × (map (map bits) (matrixProduct ((one ∷ two ∷ []) ∷ []) ((two ∷ one ∷ none ∷ []) ∷ (none ∷ none ∷ one ∷ []) ∷ [])) ≡ (0x40000000 ∷ 0x3f800000 ∷ 0x40000000 ∷ []) ∷ [])
     × (map (map bits) (outer (one ∷ two ∷ []) (two ∷ one ∷ [])) ≡ (0x40000000 ∷ 0x3f800000 ∷ []) ∷ (0x40800000 ∷ 0x40000000 ∷ []) ∷ [])
     × (identity ([] ∷ [] ∷ []) ≡ (one ∷ none ∷ []) ∷ (none ∷ one ∷ []) ∷ [])
 unfolding round add mul ofBits toBits
-matrices = (refl, refl, refl)
+matrices = (refl, refl, refl, refl)
 
 -- ---- the root
 

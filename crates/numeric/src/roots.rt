@@ -4,6 +4,7 @@ ghost use Prim.Native.Nat.{_+_, _*_, _^_, _<_, _≤_};
 ghost use lib.Ieee.{binary32, ofBits};
 ghost use Rattle.numeric.specs.Bits.{patternUnits};
 ghost use Rattle.numeric.specs.Root.{unitsRoot, rootOf};
+use crate::bits;
 
 // The whole part of the root of n, by halving: the largest r with r * r <= n.
 fn halved_root(n: u64) -> u64
@@ -31,40 +32,52 @@ fn halved_near(n: u64) -> u64
     if r < n - r * r { r + 1 } else { r }
 }
 
-// The root of the f32 with the pattern b, to about 33 digits: nothing rests on this guess but the time that the test of it saves.
-fn guessed_root(b: u32) -> f64
-    requires { ⌜ b < 2139095040 ⌝ }
-{
-    let x: f64 = f32::from_bits(b) as f64;
-    // half the pattern halves the exponent: within one part in 28
-    let a: f64 = f32::from_bits(b / 2 + 0x1fbb_5000) as f64;
-    // a step of Halley's, p / r, which cubes the error, and one of Newton's, which squares it, in one division
-    let q: f64 = a * a;
-    let p: f64 = a * (q + 3.0 * x);
-    let r: f64 = 3.0 * q + x;
-    (p * p + x * (r * r)) / (2.0 * p * r)
+// The digits of the root of the f32 with the pattern b, one off at most, as those of a pattern: nothing rests on this guess but the time that it saves.
+fn guessed_root(b: u32) -> u32 {
+    // the number times a power of 4, from 1/2 to 2: its root has the same digits
+    let c: u32 = b % 0x100_0000 + 0x3f00_0000;
+    let x: f32 = f32::from_bits(c);
+    // half the pattern halves the exponent: within one part in 25, and of 12 digits, so that its square is exact
+    let a: f32 = f32::from_bits(c / 0x2000 * 0x1000 + 0x1fbc_0000);
+    let q: f32 = a * a;
+    // a step like Newton's, which takes the error to its fifth power where Newton's squares it
+    let p: f32 = 4.0 * (x + q) * (a * (x - q));
+    let r: f32 = 5.0 * q * (q + 2.0 * x) + x * x;
+    bits::to_bits(a + p / r)
 }
 
-// The whole number nearest to the root of n: the guess's 24 leading digits, if they are it, since halving takes 32 turns.
-fn near_root(n: u64, guess: f64) -> u64
-    requires { ⌜ (2 ^ 46 ≤ n) × (n < 2 ^ 48) ⌝ }
+// r, if it is the whole number nearest to the root of n, and else that number by halving, which takes 32 turns.
+fn tested_root(n: u64, r: u64) -> u64
+    requires { ⌜ (2 ^ 46 ≤ n) × (n < 2 ^ 48) × (r ≤ 2 ^ 24) ⌝ }
     ensures { λ q. ⌜ (q * q < n + q) × (n ≤ q * q + q) ⌝ }
 {
-    if guess != guess {
-        return halved_near(n);
-    }
-    let q: u64 = (f64::to_bits(guess) / 0x1000_0000 + 1) / 2 % 0x80_0000 + 0x80_0000;
-    let s: u64 = q * q;
-    if s < n + q {
-        if n <= s + q {
-            return q;
+    let s: u64 = r * r;
+    if s < n + r {
+        if n <= s + r {
+            return r;
         }
     }
     halved_near(n)
 }
 
+// The whole number nearest to the root of n: the guess's 24 digits where they are it, and else what is next to them on the root's side is tested.
+fn near_root(n: u64, guess: u32) -> u64
+    requires { ⌜ (2 ^ 46 ≤ n) × (n < 2 ^ 48) ⌝ }
+    ensures { λ q. ⌜ (q * q < n + q) × (n ≤ q * q + q) ⌝ }
+{
+    let q: u64 = (guess % 0x80_0000 + 0x80_0000) as u64;
+    let s: u64 = q * q;
+    if s + q < n {
+        return tested_root(n, q + 1);
+    }
+    if s < n + q {
+        return q;
+    }
+    tested_root(n, q - 1)
+}
+
 // The pattern of the f32 nearest to the root of n * 4^k, in units of 2^-149; n has 47 or 48 digits, and its root 24.
-fn leading_root(n: u64, k: u32, guess: f64) -> u32
+fn leading_root(n: u64, k: u32, guess: u32) -> u32
     requires { ⌜ (2 ^ 46 ≤ n) × (n < 2 ^ 48) × (k ≤ 201) ⌝ }
     ensures { λ r. ⌜ (ofBits binary32 r ≡ unitsRoot (n * (2 ^ k * 2 ^ k))) × (r < 2139095040) ⌝ }
 {
@@ -83,7 +96,7 @@ fn scaled_root(n: u64, k: u32) -> u32
         h = h - 1;
     }
     // so small a number is rare, and gets no guess
-    leading_root(m, h, 0.0)
+    leading_root(m, h, 0)
 }
 
 // The pattern of the root of the f32 above zero whose pattern is b.
