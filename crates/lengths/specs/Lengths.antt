@@ -228,6 +228,6 @@ pub record Laws : Type 0 where
       → stepLengths total max substeps stop count proposals ≡ Ended e n remaining → Ending (not (eqb stop 0)) (minOf total substeps) max total proposals e n remaining
   -- of every step that is not refused ahead of its proposals: `min_dt` answers the length that the step raises to
   pub same-least : (total max : Float) (substeps stop count len : ℕ) → stepCheck total max substeps stop count len ≡ Done → minDt total substeps ≡ LeastLength (minOf total substeps)
-  -- and of a host's loop; the total is an f32
+  -- and a host's loop with it goes as the step does; its total is an f32
   pub driving : (total max : Float) (substeps stop count : ℕ) (proposals : List Float) → T (fits binary32 total)
       → stepCheck total max substeps stop count (length proposals) ≡ Done → Driven total max substeps stop count proposals
