@@ -62,7 +62,9 @@ fn by_substeps(step: &Step) -> Lengths {
     let least = unsafe { mk_min_dt(total, max_num_substeps) };
     if !is_good || least.number != 0 {
         // No substep is refused for what belongs to the whole step.
-        return lengths(step);
+        let answer = lengths(step);
+        assert_ne!(answer.number, 0);
+        return answer;
     }
     let (mut remaining, mut dts) = (total, dts.iter().map(|dt| f32::from_bits(*dt)));
     for count in 0.. {

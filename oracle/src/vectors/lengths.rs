@@ -637,7 +637,7 @@ mod tests {
             rules.reverse();
         }
         match rules.iter().find(|(_, holds)| !holds) {
-            Some((number, _)) if wrong == "refused with 4 throughout" => Err(Refusal { number: (*number).max(4), index: 0 }),
+            Some(_) if wrong == "refused with 4 throughout" => Err(Refusal { number: 4, index: 0 }),
             Some((number, _)) => Err(Refusal { number: *number, index: 0 }),
             None => Ok(quotient(total, count, wrong)),
         }
