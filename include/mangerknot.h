@@ -570,6 +570,13 @@ typedef struct {
     float remaining;    /* what remains after it */
 } mk_taken_substep;
 
+/* The least length of a step's substeps. Where the number is not MK_DONE, the last one is +0. */
+typedef struct {
+    uint32_t number;    /* as in mk_refusal */
+    size_t index;       /* as in mk_refusal */
+    float length;       /* how long it is */
+} mk_least_length;
+
 /*
  * The lengths of a step from what a host proposes for each substep. As long as more than 0 remains, the next proposal is taken. It has to
  * be above 0, and at most what remains and at most max_substep_dt; where it is below the least length, mk_min_dt, and more than that
@@ -589,8 +596,11 @@ mk_lengths mk_step_lengths(float total, float max_substep_dt, uint32_t max_num_s
  * of the first three is not finite, and 4, where the proposal breaks its rule; so it is 4 where nothing remains.
  */
 mk_taken_substep mk_substep(float remaining_time, float min_dt, float max_substep_dt, float dt);
-/* The least length: total over the float nearest to max_num_substeps. Refuses nothing; of 0 it is what the division gives. */
-float mk_min_dt(float total, uint32_t max_num_substeps);
+/*
+ * The least length, which such a host asks for once: total over the float nearest to max_num_substeps. Refuses, with index 0, 3, where the
+ * total is not finite (it may be 0 or less), and 4, where max_num_substeps is 0.
+ */
+mk_least_length mk_min_dt(float total, uint32_t max_num_substeps);
 
 /* ---- The bench listing: a text in, a text out ---- */
 

@@ -452,15 +452,19 @@ static void lengths(void) {
 /* The same by a loop of one's own. */
 static void substeps(void) {
     const float dts[3] = {0.125f, 0.5f, 0.25f}, taken[3] = {0.25f, 0.5f, 0.25f};
-    float remaining = 1.0f, least = mk_min_dt(1.0f, 4);
-    EXPECT(least == 0.25f && mk_min_dt(1.0f, 16777217) == mk_min_dt(1.0f, 16777216));
+    float remaining = 1.0f;
+    const mk_least_length fourth = mk_min_dt(1.0f, 4), none = mk_min_dt(1.0f, 0), infinite = mk_min_dt(INFINITY, 0);
+    EXPECT(fourth.number == MK_DONE && fourth.index == 0 && fourth.length == 0.25f);
+    EXPECT(mk_min_dt(1.0f, 16777217).length == mk_min_dt(1.0f, 16777216).length);
+    EXPECT(none.number == MK_REFUSED_CODE && none.index == 0 && none.length == 0.0f);
+    EXPECT(infinite.number == MK_REFUSED_SETTING && infinite.index == 0 && infinite.length == 0.0f);
     for (int k = 0; k < 3; k++) {
-        mk_taken_substep substep = mk_substep(remaining, least, 0.5f, dts[k]);
+        mk_taken_substep substep = mk_substep(remaining, fourth.length, 0.5f, dts[k]);
         EXPECT(substep.number == MK_DONE && substep.index == 0 && substep.length == taken[k]);
         remaining = substep.remaining;
     }
     EXPECT(remaining == 0.0f);
-    mk_taken_substep refused = mk_substep(remaining, least, 0.5f, 0.5f);
+    mk_taken_substep refused = mk_substep(remaining, fourth.length, 0.5f, 0.5f);
     EXPECT(refused.number == MK_REFUSED_CODE && refused.index == 0 && refused.length == 0.0f && refused.remaining == 0.0f);
     refused = mk_substep(1.0f, NAN, 0.5f, 0.5f);
     EXPECT(refused.number == MK_REFUSED_SETTING && refused.index == 0 && refused.length == 0.0f && refused.remaining == 0.0f);

@@ -297,8 +297,15 @@ pub struct Substep {
 }
 
 /// The least length of a substep that more remains than: total/max_num_substeps, the count as an f32, ties to even.
-pub fn min_dt(total: f32, max_num_substeps: u32) -> f32 {
+pub fn least_length(total: f32, max_num_substeps: u32) -> f32 {
     total / max_num_substeps as f32
+}
+
+/// The least length that a call answers, or what it is refused for, as the table has it of lengths: 3 for a total that is not finite, which
+/// may be 0 or less, and 4 for a max_num_substeps of 0.
+pub fn min_dt(total: f32, max_num_substeps: u32) -> Result<f32, Refusal> {
+    let refusal = refused(3, unless(total.is_finite())).or_else(|| refused(4, unless(max_num_substeps != 0)));
+    refusal.map_or(Ok(least_length(total, max_num_substeps)), Err)
 }
 
 /// One substep of this proposal, or what it is refused for: 3, and 4 for a proposal that breaks its rule.
@@ -324,7 +331,7 @@ pub fn step_lengths(step: &Step) -> Result<Taken, Refusal> {
     if let Some(refusal) = no_settings {
         return Err(refusal);
     }
-    let min = min_dt(*total, *max_num_substeps);
+    let min = least_length(*total, *max_num_substeps);
     let mut remaining = *total;
     let mut dts = dts.iter().map(|dt| f32::from_bits(*dt));
     for count in 0.. {
@@ -697,6 +704,16 @@ mod tests {
         assert_eq!(step_lengths(&Step { total: 0.5, ..one }), Ok(Taken { count: 1, remaining: 0.0, end: FINISHED }));
         let negative = Step { total: -3.5, ..quarters(&[f32::NAN]) };
         assert_eq!(step_lengths(&negative), Ok(Taken { count: 0, remaining: -3.5, end: FINISHED }));
+    }
+
+    #[test]
+    fn of_the_least_length_the_total_comes_first() {
+        let refused = |number: u32| Err(Refusal { number, index: 0 });
+        assert_eq!([min_dt(1.0, 4), min_dt(0.0, 4), min_dt(-1.0, 1), min_dt(f32::MAX, 1)], [0.25, 0.0, -1.0, f32::MAX].map(Ok));
+        for total in [f32::NAN, f32::INFINITY, f32::NEG_INFINITY] {
+            assert_eq!([min_dt(total, 4), min_dt(total, 0)], [refused(3), refused(3)]);
+        }
+        assert_eq!([0.0, 1.0, -1.0].map(|total| min_dt(total, 0)), [refused(4), refused(4), refused(4)]);
     }
 
     #[test]

@@ -12,7 +12,8 @@ use Rattle.laws.specs.Refusals.{settle}
 use Rattle.cells.specs.declared.Found.{Found}
 use Rattle.grid.specs.Answers.{numberOf, indexOf, refused}
 use Rattle.grid.specs.declared.Answer.{Answer}
-use Rattle.lengths.specs.Lengths.{stepNumber, stepIndex, stepCount, stepRemaining, stepEnd, substepNumber, substepIndex, substepLength, substepRemaining}
+use Rattle.lengths.specs.Lengths.{stepNumber, stepIndex, stepCount, stepRemaining, stepEnd, minNumber, minIndex, minLength, substepNumber, substepIndex, substepLength, substepRemaining}
+use Rattle.lengths.specs.declared.Least.{Least}
 use Rattle.lengths.specs.declared.Lengths.{Lengths}
 use Rattle.lengths.specs.declared.Substep.{Substep}
 use Rattle.boundary.specs.Crossing.{foundFlag, foundPlace}
@@ -34,10 +35,13 @@ pub answered : {S : Type 0} {answer right : Answer} {number index : ℕ} {left :
     → (number ≡ numberOf answer) × (index ≡ indexOf answer) → (number ≡ numberOf right) × (index ≡ indexOf right) × (left ≡ settle (refused right) old new)
 answered old new (e, l) (n, i) = (n ∙ ap numberOf e, i ∙ ap indexOf e, l ∙ ap (λ (a : Answer). settle (refused a) old new) e)
 
--- The same of the lengths of a step and of one substep, value by value.
+-- The same of the lengths of a step, of the least length and of one substep, value by value.
 pub stepped : {answer right case : Lengths} → answer ≡ right → answer ≡ case
     → (stepNumber case ≡ stepNumber right) × (stepIndex case ≡ stepIndex right) × (stepCount case ≡ stepCount right) × (stepRemaining case ≡ stepRemaining right) × (stepEnd case ≡ stepEnd right)
 stepped e t = let s = sym t ∙ e in (ap stepNumber s, ap stepIndex s, ap stepCount s, ap stepRemaining s, ap stepEnd s)
+
+pub least : {answer right case : Least} → answer ≡ right → answer ≡ case → (minNumber case ≡ minNumber right) × (minIndex case ≡ minIndex right) × (minLength case ≡ minLength right)
+least e t = let s = sym t ∙ e in (ap minNumber s, ap minIndex s, ap minLength s)
 
 pub substepped : {answer right case : Substep} → answer ≡ right → answer ≡ case
     → (substepNumber case ≡ substepNumber right) × (substepIndex case ≡ substepIndex right) × (substepLength case ≡ substepLength right) × (substepRemaining case ≡ substepRemaining right)

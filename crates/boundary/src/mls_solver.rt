@@ -1,6 +1,6 @@
 // The lengths of substeps over the boundary, all of a step or one at a time. What is lent is only read.
 ghost use mathlib.Core.Path.{_≡_};
-ghost use Rattle.lengths.specs.Lengths.{minOf, stepLengths, substep, endNumber, stepNumber, stepIndex, stepCount, stepRemaining, stepEnd, substepNumber, substepIndex, substepLength, substepRemaining};
+ghost use Rattle.lengths.specs.Lengths.{stepLengths, minDt, substep, endNumber, stepNumber, stepIndex, stepCount, stepRemaining, stepEnd, minNumber, minIndex, minLength, substepNumber, substepIndex, substepLength, substepRemaining};
 use lengths::End;
 
 // A number of the table and an index; and, where these are 0, how many substeps the step has, what time remains, and how it ended: 0 finished, 1 after the one that was asked
@@ -23,11 +23,31 @@ pub struct Substep {
     pub remaining: f32,
 }
 
+// The same of the least length.
+#[repr(C)]
+pub struct LeastLength {
+    pub number: u32,
+    pub index: usize,
+    pub length: f32,
+}
+
 #[no_mangle]
-pub extern "C" fn mk_min_dt(total: f32, max_num_substeps: u32) -> f32
-    ensures { λ r. ⌜ r ≡ minOf total «max_num_substeps» ⌝ }
+pub extern "C" fn mk_min_dt(total: f32, max_num_substeps: u32) -> LeastLength
+    ensures { λ r. ⌜ (let a = minDt total «max_num_substeps» in (r .number ≡ minNumber a) × (r .index ≡ minIndex a) × (r .length ≡ minLength a)) ⌝ }
 {
-    lengths::mls_solver::min_dt(total, max_num_substeps)
+    let a = lengths::mls_solver::min_dt(total, max_num_substeps);
+    match a {
+        lengths::Least::Length(length) => LeastLength {
+            number: 0,
+            index: 0,
+            length,
+        },
+        lengths::Least::Refused(rule, index) => LeastLength {
+            number: grid::number(rule),
+            index,
+            length: 0.0,
+        },
+    }
 }
 
 #[no_mangle]

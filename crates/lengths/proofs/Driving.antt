@@ -1,12 +1,13 @@
--- A host's own loop of single substeps answers what the step answers: on the way nothing is refused with 3, since every time that remains is finite, and so is the least
--- length. Assumes nothing.
+-- A host's own loop of single substeps, with the least length that `min_dt` answers, answers what the step answers: on the way nothing is refused with 3, since every time
+-- that remains is finite, and so is the least length. Assumes nothing.
 use mathlib.Core.Path.{_≡_, refl, sym, ap, _∙_, subst}
 use mathlib.Core.Bool.{Bool, true, false, cond, _&&_, not}
 use mathlib.Core.Logic.{inl, inr}
 use mathlib.Core.List.{List, [], _∷_}
 use Prim.Native.Nat.{ℕ, suc, _<_}
 use native.Mathlib.Nat.{pos-of-ne-zero}
-use borrow.Author.Tests.{eqb-false}
+use native.Mathlib.Omega.{arith}
+use borrow.Author.Tests.{eqb-false, ne-eqb}
 use lib.Dec.{T, eqb}
 use lib.Ieee.{Float, nan, inf, fin, binary32, fits, lt, le}
 use lib.Ieee.Fits.{sub-fits}
@@ -22,8 +23,9 @@ use Rattle.grid.specs.declared.Rule.the-variants.{Code}
 use Rattle.grid.proofs.Answers.{refuse-passed, not-false, not-true}
 use Rattle.grid.proofs.Lengths.{and-split}
 use Rattle.grid.proofs.Steps as Steps
-use Rattle.lengths.specs.Lengths.{minOf, allowed, raised, walk, taken, stepCheck, stepLengths, substepCheck, substep, driven, drivenLengths, Driven}
+use Rattle.lengths.specs.Lengths.{minOf, allowed, raised, walk, taken, stepCheck, stepLengths, minCheck, minDt, substepCheck, substep, driven, drivenLengths, Driven}
 use Rattle.lengths.specs.declared.Lengths.the-variants.{Ended}
+use Rattle.lengths.specs.declared.Least.the-variants.{Length as LeastLength}
 use Rattle.lengths.specs.declared.Substep.the-variants.{Taken, Refused as SubstepRefused}
 use Rattle.lengths.proofs.Finite.{above-is, under, sub-finite, div-finite}
 use Rattle.lengths.proofs.Walking.{Over, Open, look, over-walk, over-taken}
@@ -141,10 +143,18 @@ passed total max substeps stop count len e =
     let ne = eqb-false substeps 0 (not-true (eqb substeps 0) (and-split some (isFlag stop && true) o .0)) in
     record { total-finite = s .0; max-finite = and-split (finite max) true (s .1) .0; some = pos-of-ne-zero ne }
 
+pub same-least : (total max : Float) (substeps stop count len : ℕ) → stepCheck total max substeps stop count len ≡ Done → minDt total substeps ≡ LeastLength (minOf total substeps)
+unfolding minDt minCheck
+same-least total max substeps stop count len e =
+    let c = passed total max substeps stop count len (ap refused e) in
+    rw (c .total-finite, ne-eqb substeps 0 (λ z. omega (arith, c .some)))
+
 pub drives : (total max : Float) (substeps stop count : ℕ) (proposals : List Float) → T (fits binary32 total) → stepCheck total max substeps stop count (length proposals) ≡ Done
     → Driven total max substeps stop count proposals
 unfolding stepLengths
-drives total max substeps stop count proposals F e = record { same-answer = rw e (both-same .0); same-lengths = both-same .1 }
+drives total max substeps stop count proposals F e =
+    let l = same-least total max substeps stop count (length proposals) e in
+    record { same-answer = rw (l, e) (both-same .0); same-lengths = rw l (both-same .1) }
   where
     one : Bool
     one = not (eqb stop 0)

@@ -19,6 +19,8 @@ use Rattle.lengths.specs.declared.End.{End}
 use Rattle.lengths.specs.declared.End.the-variants.{Finished, OneSubstep, NoProposal}
 use Rattle.lengths.specs.declared.Lengths.{Lengths}
 use Rattle.lengths.specs.declared.Lengths.the-variants.{Ended, Refused as StepRefused}
+use Rattle.lengths.specs.declared.Least.{Least}
+use Rattle.lengths.specs.declared.Least.the-variants.{Length as LeastLength, Refused as LeastRefused}
 use Rattle.lengths.specs.declared.Substep.{Substep}
 use Rattle.lengths.specs.declared.Substep.the-variants.{Taken, Refused as SubstepRefused}
 
@@ -77,6 +79,22 @@ unfoldable pub stepLengths : Float → Float → ℕ → ℕ → ℕ → List Fl
 stepLengths total max substeps stop count proposals =
     stepOr (stepCheck total max substeps stop count (length proposals)) (walk (not (eqb stop 0)) (minOf total substeps) max 0 total proposals)
 
+-- of the least length: 3; max_num_substeps 0 in 4
+unfoldable pub minCheck : Float → ℕ → Answer
+minCheck total substeps =
+    first (
+    settings (finite total ∷ [])
+    ∷ codes (not (eqb substeps 0) ∷ [])
+    ∷ []
+    )
+
+abbrev pub minOr : Answer → Least → Least
+minOr Done answer = answer
+minOr (Refused rule k) answer = LeastRefused rule k
+
+unfoldable pub minDt : Float → ℕ → Least
+minDt total substeps = minOr (minCheck total substeps) (LeastLength (minOf total substeps))
+
 -- of one substep: 3; a proposal that breaks its rule in 4
 unfoldable pub substepCheck : Float → Float → Float → Float → Answer
 substepCheck remaining min max proposal =
@@ -122,6 +140,18 @@ stepRemaining (StepRefused rule k) = none
 abbrev pub stepEnd : Lengths → ℕ
 stepEnd (Ended e n remaining) = endNumber e
 stepEnd (StepRefused rule k) = 0
+
+abbrev pub minNumber : Least → ℕ
+minNumber (LeastLength dt) = 0
+minNumber (LeastRefused rule k) = number rule
+
+abbrev pub minIndex : Least → ℕ
+minIndex (LeastLength dt) = 0
+minIndex (LeastRefused rule k) = k
+
+abbrev pub minLength : Least → Float
+minLength (LeastLength dt) = dt
+minLength (LeastRefused rule k) = none
 
 abbrev pub substepNumber : Substep → ℕ
 substepNumber (Taken dt remaining) = 0
@@ -187,15 +217,17 @@ module _ (one : Bool) (min max : Float) where
   drivenLengths n remaining [] = []
   drivenLengths n remaining (p ∷ ps) = cond (over one n remaining) [] (after (substep remaining min max p) (λ dt left. dt ∷ drivenLengths (suc n) left ps) (λ rule. []))
 
--- It answers what the step answers, and takes the lengths that the step subtracts.
+-- With the least length that `min_dt` answers it answers what the step answers, and takes the lengths that the step subtracts.
 pub record Driven (total max : Float) (substeps stop count : ℕ) (proposals : List Float) : Type 0 where
-  pub same-answer : driven (not (eqb stop 0)) (minOf total substeps) max 0 total proposals ≡ stepLengths total max substeps stop count proposals
-  pub same-lengths : drivenLengths (not (eqb stop 0)) (minOf total substeps) max 0 total proposals ≡ taken (not (eqb stop 0)) (minOf total substeps) max 0 total proposals
+  pub same-answer : driven (not (eqb stop 0)) (minLength (minDt total substeps)) max 0 total proposals ≡ stepLengths total max substeps stop count proposals
+  pub same-lengths : drivenLengths (not (eqb stop 0)) (minLength (minDt total substeps)) max 0 total proposals ≡ taken (not (eqb stop 0)) (minOf total substeps) max 0 total proposals
 
 pub record Laws : Type 0 where
   -- of every step that ends
   pub ending : (total max : Float) (substeps stop count : ℕ) (proposals : List Float) (e : End) (n : ℕ) (remaining : Float)
       → stepLengths total max substeps stop count proposals ≡ Ended e n remaining → Ending (not (eqb stop 0)) (minOf total substeps) max total proposals e n remaining
-  -- of every step that is not refused ahead of its proposals; its total is an f32
+  -- of every step that is not refused ahead of its proposals: `min_dt` answers the length that the step raises to
+  pub same-least : (total max : Float) (substeps stop count len : ℕ) → stepCheck total max substeps stop count len ≡ Done → minDt total substeps ≡ LeastLength (minOf total substeps)
+  -- and a host's loop with it goes as the step does; its total is an f32
   pub driving : (total max : Float) (substeps stop count : ℕ) (proposals : List Float) → T (fits binary32 total)
       → stepCheck total max substeps stop count (length proposals) ≡ Done → Driven total max substeps stop count proposals

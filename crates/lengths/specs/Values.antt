@@ -9,10 +9,11 @@ use Rattle.numeric.specs.Bits.{none, half, threeQuarters, one, two}
 use Rattle.grid.specs.Table.{finite}
 use Rattle.grid.specs.declared.Answer.the-variants.{Done, Refused}
 use Rattle.grid.specs.declared.Rule.the-variants.{Length, Setting, Code}
-use Rattle.lengths.specs.Lengths.{minOf, allowed, raised, walk, stepCheck, stepLengths, substepCheck, substep, taken, less, driven, drivenLengths, endNumber, stepNumber, stepIndex, stepCount, stepRemaining, stepEnd, substepNumber, substepIndex, substepLength, substepRemaining}
+use Rattle.lengths.specs.Lengths.{minOf, allowed, raised, walk, stepCheck, stepLengths, minCheck, minDt, substepCheck, substep, taken, less, driven, drivenLengths, endNumber, stepNumber, stepIndex, stepCount, stepRemaining, stepEnd, minNumber, minIndex, minLength, substepNumber, substepIndex, substepLength, substepRemaining}
 use Rattle.lengths.specs.declared.End.the-variants.{Finished, OneSubstep, NoProposal}
 use Rattle.lengths.specs.declared.Lengths.{Lengths}
 use Rattle.lengths.specs.declared.Lengths.the-variants.{Ended, Refused as StepRefused}
+use Rattle.lengths.specs.declared.Least.the-variants.{Length as LeastLength, Refused as LeastRefused}
 use Rattle.lengths.specs.declared.Substep.the-variants.{Taken, Refused as SubstepRefused}
 
 abbrev f32 : ℕ → Float
@@ -45,8 +46,8 @@ abbrev oneOf : Float → List Float → Lengths
 oneOf total proposals = stepLengths total half 4 1 (length proposals) proposals
 
 pub record Values : Type 0 where
-  -- 1/4, and the f32 nearest to 1/3; 2^24 + 1 goes down to 2^24 and 2^32 - 1 up to 2^32; 0 substeps are not refused here
-  pub least-lengths : map (minOf one) (4 ∷ 3 ∷ 16777217 ∷ 4294967295 ∷ 0 ∷ []) ≡ quarter ∷ f32 0x3eaaaaab ∷ f32 0x33800000 ∷ f32 0x2f800000 ∷ inf false ∷ []
+  -- 1/4, and the f32 nearest to 1/3; 2^24 + 1 goes down to 2^24 and 2^32 - 1 up to 2^32
+  pub least-lengths : map (minOf one) (4 ∷ 3 ∷ 16777217 ∷ 4294967295 ∷ []) ≡ quarter ∷ f32 0x3eaaaaab ∷ f32 0x33800000 ∷ f32 0x2f800000 ∷ []
   -- a proposal at what remains, at the greatest length, and the least f32; just above either, and no number above 0
   pub limits : (allowed one two one ≡ true) × (allowed two one one ≡ true) × (allowed one two least ≡ true) × (allowed one two aboveOne ≡ false) × (allowed two one aboveOne ≡ false)
   pub broken : map (allowed one two) (none ∷ minusNone ∷ neg one ∷ nan ∷ inf false ∷ inf true ∷ []) ≡ false ∷ false ∷ false ∷ false ∷ false ∷ false ∷ []
@@ -75,6 +76,10 @@ pub record Values : Type 0 where
   -- each setting by itself; a total and a greatest length below 0 are accepted
   pub checks : (stepCheck (inf true) one 4 0 0 0 ≡ Refused Setting 0) × (stepCheck one (inf false) 4 0 0 0 ≡ Refused Setting 0) × (stepCheck one one 0 0 0 0 ≡ Refused Code 0)
       × (stepCheck one one 4 2 0 0 ≡ Refused Code 0) × (stepCheck one one 4 0 0 1 ≡ Refused Length 0) × (stepCheck (neg one) (neg one) 1 1 2 2 ≡ Done)
+  -- the least length of one substep, and of totals of 0 or less; 3 for each total that is not finite, and before 4
+  pub least-answers : (minDt one 1 ≡ LeastLength one) × (map (λ (t : Float). minDt t 4) (one ∷ none ∷ minusNone ∷ neg one ∷ []) ≡ map LeastLength (quarter ∷ none ∷ minusNone ∷ neg quarter ∷ []))
+  pub least-refusals : (map (λ (t : Float). minDt t 4) (nan ∷ inf false ∷ inf true ∷ []) ≡ LeastRefused Setting 0 ∷ LeastRefused Setting 0 ∷ LeastRefused Setting 0 ∷ []) × (minDt nan 0 ≡ LeastRefused Setting 0)
+      × (map (λ (t : Float). minDt t 0) (one ∷ none ∷ []) ≡ LeastRefused Code 0 ∷ LeastRefused Code 0 ∷ [])
   -- one substep at a time: raised, not raised, and with a min below 0
   pub substeps : (substep one quarter half eighth ≡ Taken quarter threeQuarters) × (substep quarter quarter half eighth ≡ Taken eighth eighth) × (substep one (neg one) half half ≡ Taken half half)
   -- 3 before 4, for each of the three; then the proposal
@@ -92,11 +97,13 @@ pub record Values : Type 0 where
   pub ends : map endNumber (Finished ∷ OneSubstep ∷ NoProposal ∷ []) ≡ 0 ∷ 1 ∷ 2 ∷ []
   pub step-ended : let a = Ended OneSubstep 1 half in (stepNumber a ≡ 0) × (stepIndex a ≡ 0) × (stepCount a ≡ 1) × (stepRemaining a ≡ half) × (stepEnd a ≡ 1)
   pub step-refused : let a = StepRefused Code 7 in (stepNumber a ≡ 4) × (stepIndex a ≡ 7) × (stepCount a ≡ 0) × (stepRemaining a ≡ none) × (stepEnd a ≡ 0)
+  pub least-length : let a = LeastLength quarter in (minNumber a ≡ 0) × (minIndex a ≡ 0) × (minLength a ≡ quarter)
+  pub least-refused : let a = LeastRefused Code 7 in (minNumber a ≡ 4) × (minIndex a ≡ 7) × (minLength a ≡ none)
   pub substep-taken : let a = Taken quarter half in (substepNumber a ≡ 0) × (substepIndex a ≡ 0) × (substepLength a ≡ quarter) × (substepRemaining a ≡ half)
   pub substep-refused : let a = SubstepRefused Setting 0 in (substepNumber a ≡ 3) × (substepIndex a ≡ 0) × (substepLength a ≡ none) × (substepRemaining a ≡ none)
 
 pub values : Values
-unfolding allowed raised walk stepCheck stepLengths substepCheck substep taken less driven drivenLengths finite neg sub div lt le ofBits ofInt
+unfolding allowed raised walk stepCheck stepLengths minCheck minDt substepCheck substep taken less driven drivenLengths finite neg sub div lt le ofBits ofInt
 values =
     record {
       least-lengths = refl;
@@ -113,6 +120,8 @@ values =
       lost = refl;
       order = (refl, refl, refl, refl, refl);
       checks = (refl, refl, refl, refl, refl, refl);
+      least-answers = (refl, refl);
+      least-refusals = (refl, refl, refl);
       substeps = (refl, refl, refl);
       substep-refusals = (refl, refl, refl, refl, refl);
       subtractions = (refl, refl, refl, refl, refl);
@@ -121,6 +130,8 @@ values =
       ends = refl;
       step-ended = (refl, refl, refl, refl, refl);
       step-refused = (refl, refl, refl, refl, refl);
+      least-length = (refl, refl, refl);
+      least-refused = (refl, refl, refl);
       substep-taken = (refl, refl, refl, refl);
       substep-refused = (refl, refl, refl, refl);
     }

@@ -16,6 +16,12 @@ pub enum Lengths {
     Refused(Rule, usize),
 }
 
+// What is answered of the least length: how long it is; or it is refused.
+pub enum Least {
+    Length(f32),
+    Refused(Rule, usize),
+}
+
 // What one substep answers: its length and the time that remains behind it; or it is refused.
 pub enum Substep {
     Taken(f32, f32),

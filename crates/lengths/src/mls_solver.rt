@@ -3,9 +3,10 @@ ghost use mathlib.Core.Path.{_≡_};
 ghost use mathlib.Core.Bool.{not};
 ghost use mathlib.Core.List.{[], _∷_};
 ghost use lib.Dec.{eqb};
-ghost use Rattle.grid.specs.Table.{codes, isFlag};
-ghost use Rattle.lengths.specs.Lengths.{minOf, allowed, raised, walk, stepCheck, stepLengths, substep};
+ghost use Rattle.grid.specs.Table.{all, finite, codes, isFlag};
+ghost use Rattle.lengths.specs.Lengths.{minOf, allowed, raised, walk, stepCheck, stepLengths, minDt, substep};
 use crate::End;
+use crate::Least;
 use crate::Lengths;
 use crate::Substep;
 use grid::Answer;
@@ -13,8 +14,21 @@ use grid::Rule;
 use grid::inner::check_call;
 use grid::inner::is_finite;
 
-// The least length, to which a proposal is raised.
-pub fn min_dt(total: f32, max_num_substeps: u32) -> f32
+// The least length, to which a proposal is raised: a host that has a loop of its own takes it from here.
+pub fn min_dt(total: f32, max_num_substeps: u32) -> Least
+    ensures { λ r. ⌜ r ≡ minDt total «max_num_substeps» ⌝ }
+{
+    if !is_finite(total) {
+        return Least::Refused(Rule::Setting, 0);
+    }
+    if max_num_substeps == 0 {
+        return Least::Refused(Rule::Code, 0);
+    }
+    Least::Length(min_of(total, max_num_substeps))
+}
+
+// The same of settings that are good; of others it is what the division gives.
+fn min_of(total: f32, max_num_substeps: u32) -> f32
     ensures { λ r. ⌜ r ≡ minOf total «max_num_substeps» ⌝ }
 {
     total / numeric::from_u32(max_num_substeps)
@@ -42,7 +56,7 @@ pub fn step_lengths(
     let Answer::Refused(rule, index) = a else {
         return take_substeps(
             total,
-            min_dt(total, max_num_substeps),
+            min_of(total, max_num_substeps),
             max_substep_dt,
             stop_after_one_substep,
             dts,
@@ -113,7 +127,7 @@ fn take_substeps(
 pub fn substep(remaining_time: f32, min_dt: f32, max_substep_dt: f32, dt: f32) -> Substep
     ensures { λ r. ⌜ r ≡ substep «remaining_time» «min_dt» «max_substep_dt» dt ⌝ }
 {
-    if !(is_finite(remaining_time) & (is_finite(min_dt) & is_finite(max_substep_dt))) {
+    if !are_finite(remaining_time, min_dt, max_substep_dt) {
         return Substep::Refused(Rule::Setting, 0);
     }
     if !is_allowed(remaining_time, max_substep_dt, dt) {
@@ -121,6 +135,13 @@ pub fn substep(remaining_time: f32, min_dt: f32, max_substep_dt: f32, dt: f32) -
     }
     let length = raise(remaining_time, min_dt, dt);
     Substep::Taken(length, remaining_time - length)
+}
+
+// Whether each time that a substep is given beside its proposal is finite.
+fn are_finite(remaining_time: f32, min_dt: f32, max_substep_dt: f32) -> bool
+    ensures { λ r. ⌜ r ≡ all finite («remaining_time» ∷ «min_dt» ∷ «max_substep_dt» ∷ []) ⌝ }
+{
+    is_finite(remaining_time) & (is_finite(min_dt) & is_finite(max_substep_dt))
 }
 
 // Whether a proposal keeps its rule.

@@ -101,6 +101,14 @@ pub struct Substep {
     pub remaining: f32,
 }
 
+#[repr(C)]
+#[derive(Clone, Copy, Debug, PartialEq)]
+pub struct LeastLength {
+    pub number: u32,
+    pub index: usize,
+    pub length: f32,
+}
+
 extern "C" {
     pub fn mk_masked_add(mask: u64, i: u64, j: u64) -> u64;
     pub fn mk_region_of(cell_id: u64) -> u64;
@@ -331,6 +339,6 @@ extern "C" {
         dts_len: usize,
     ) -> Lengths;
     pub fn mk_substep(remaining_time: f32, min_dt: f32, max_substep_dt: f32, dt: f32) -> Substep;
-    pub fn mk_min_dt(total: f32, max_num_substeps: u32) -> f32;
+    pub fn mk_min_dt(total: f32, max_num_substeps: u32) -> LeastLength;
     pub fn mk_bench(text: *const u8, text_len: usize, out: *mut u8, out_len: usize) -> usize;
 }

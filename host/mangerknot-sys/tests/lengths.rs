@@ -41,7 +41,10 @@ fn replay_with(of_step: fn(&Step) -> Lengths) {
                 unsafe { mk_substep(float(remaining), float(min), float(limit), float(dt)) };
             format!("{}\t{}\t{:08X}\t{:08X}", number, index, bits(length), bits(remaining))
         }
-        ["m", total, count] => format!("{:08X}", bits(unsafe { mk_min_dt(float(total), decimal(count)) })),
+        ["m", total, count] => {
+            let LeastLength { number, index, length } = unsafe { mk_min_dt(float(total), decimal(count)) };
+            format!("{}\t{}\t{:08X}", number, index, bits(length))
+        }
         _ => panic!("no such question: {:?}", question),
     });
     assert!(asked.keys().eq(["m", "s", "t"]));
@@ -55,12 +58,14 @@ fn lengths_vectors() {
 /// A host who asks for the least length once, and then takes his proposals one by one.
 fn by_substeps(step: &Step) -> Lengths {
     let Step { total, max_substep_dt, max_num_substeps, stop_after_one_substep, proposals, ref dts } = *step;
-    let is_good = dts.len() as u64 == proposals && total.is_finite() && max_substep_dt.is_finite();
-    if !is_good || max_num_substeps == 0 || stop_after_one_substep > 1 {
+    let is_good = dts.len() as u64 == proposals && max_substep_dt.is_finite() && stop_after_one_substep <= 1;
+    let least = unsafe { mk_min_dt(total, max_num_substeps) };
+    if !is_good || least.number != 0 {
         // No substep is refused for what belongs to the whole step.
-        return lengths(step);
+        let answer = lengths(step);
+        assert_ne!(answer.number, 0);
+        return answer;
     }
-    let min = unsafe { mk_min_dt(total, max_num_substeps) };
     let (mut remaining, mut dts) = (total, dts.iter().map(|dt| f32::from_bits(*dt)));
     for count in 0.. {
         let ended = |end: u32| Lengths { number: 0, index: 0, count, remaining, end };
@@ -70,7 +75,7 @@ fn by_substeps(step: &Step) -> Lengths {
             None => return ended(NONE_LEFT),
             Some(dt) => dt,
         };
-        let taken = unsafe { mk_substep(remaining, min, max_substep_dt, dt) };
+        let taken = unsafe { mk_substep(remaining, least.length, max_substep_dt, dt) };
         if taken.number != 0 {
             return Lengths { number: taken.number, index: count, count: 0, remaining: 0.0, end: 0 };
         }
@@ -106,7 +111,7 @@ fn random_steps_by_substeps_and_at_once() {
 }
 
 fn proposals(step: &Step, most: usize, rng: &mut Rng) -> Vec<f32> {
-    let min = unsafe { mk_min_dt(step.total, step.max_num_substeps) };
+    let min = unsafe { mk_min_dt(step.total, step.max_num_substeps) }.length;
     let (mut remaining, mut found) = (step.total, vec![]);
     while found.len() < most && remaining > 0.0 {
         let limit = remaining.min(step.max_substep_dt);
@@ -185,12 +190,16 @@ fn substeps_by_hand() {
 #[test]
 fn least_lengths_by_hand() {
     let least = |total: f32, count: u32| unsafe { mk_min_dt(total, count) };
-    assert_eq!([least(1.0, 4), least(-3.0, 2)], [0.25, -1.5]);
+    let answer = |number: u32, length: f32| LeastLength { number, index: 0, length };
+    assert_eq!([least(1.0, 4), least(-3.0, 2), least(f32::MAX, 1)], [0.25, -1.5, f32::MAX].map(|length| answer(0, length)));
     assert_eq!(least(1.0, 16_777_217), least(1.0, 16_777_216));
-    assert_eq!(least(1.0, u32::MAX), 1.0 / 4294967296.0);
-    assert_eq!([least(1.0, 0), least(-1.0, 0)], [f32::INFINITY, f32::NEG_INFINITY]);
-    assert!(least(0.0, 0).is_nan() && least(f32::NAN, 1).is_nan());
-    assert_eq!([least(-0.0, 3).to_bits(), least(1e-45, u32::MAX).to_bits()], [0x8000_0000, 0]);
+    assert_eq!(least(1.0, u32::MAX), answer(0, 1.0 / 4294967296.0));
+    let bits = |total: f32, count: u32| least(total, count).length.to_bits();
+    assert_eq!([bits(0.0, 3), bits(-0.0, 3), bits(1e-45, u32::MAX)], [0, 0x8000_0000, 0]);
+    for total in [f32::NAN, f32::INFINITY, f32::NEG_INFINITY] {
+        assert_eq!([0, 1, u32::MAX].map(|count| least(total, count)), [answer(3, 0.0); 3]);
+    }
+    assert_eq!([0.0, -0.0, 1.0, -1.0, f32::MAX].map(|total| least(total, 0)), [answer(4, 0.0); 5]);
 }
 
 /// Nothing is behind a pointer with a count of 0, and NULL is as good as any.

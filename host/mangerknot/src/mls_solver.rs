@@ -47,9 +47,23 @@ pub struct Substep {
     pub remaining: f32,
 }
 
-/// The least length: total over the float nearest to max_num_substeps. Refuses nothing; of 0 it is what the division gives.
-pub fn min_dt(total: f32, max_num_substeps: u32) -> f32 {
-    archive!(mk_min_dt: total max_num_substeps)
+/// The least length: total over the float nearest to `max_num_substeps`. Refuses 3, where the total is not finite (it may be 0 or less),
+/// and 4, where `max_num_substeps` is 0.
+///
+/// ```
+/// use mangerknot::mls_solver::min_dt;
+/// assert_eq!(min_dt(1.0, 4)?, 0.25);
+/// assert_eq!(min_dt(1.0, 0).unwrap_err().to_string(), "max_num_substeps is 0 (number 4, index 0)");
+/// # Ok::<(), mangerknot::Refused>(())
+/// ```
+pub fn min_dt(total: f32, max_num_substeps: u32) -> Result<f32, Refused> {
+    let sys::LeastLength { number, index, length } = archive!(mk_min_dt: total max_num_substeps);
+    let sentence = match number {
+        0 => return Ok(length),
+        3 => not_finite(&[("the total", total)]),
+        _ => no_substeps(),
+    };
+    Err(Refused { number, index, sentence })
 }
 
 /// The lengths of a step from what a host proposes for each substep. As long as more than 0 remains, the next proposal is taken. It has to
@@ -91,10 +105,10 @@ pub fn step_lengths(step: &Step, proposals: &[f32]) -> Result<Lengths, Refused> 
 ///
 /// ```
 /// use mangerknot::mls_solver::{min_dt, substep};
-/// let mut remaining = 1.0;
+/// let (mut remaining, least) = (1.0, min_dt(1.0, 4)?);
 /// let mut lengths = vec![];
 /// while remaining > 0.0 {
-///     let taken = substep(remaining, min_dt(1.0, 4), 0.5, 0.125)?;
+///     let taken = substep(remaining, least, 0.5, 0.125)?;
 ///     lengths.push(taken.length);
 ///     remaining = taken.remaining;
 /// }
@@ -119,6 +133,10 @@ fn not_finite(settings: &[(&str, f32)]) -> String {
     format!("{} is not finite", names.take(1).collect::<String>())
 }
 
+fn no_substeps() -> String {
+    "max_num_substeps is 0".to_string()
+}
+
 fn proposal_fault(proposal: &str, dt: f32, limit: f32) -> String {
     match dt > limit {
         true => format!("{} is above what it may be at most, {}", proposal, limit),
@@ -130,7 +148,7 @@ impl Step {
     fn sentence(&self, number: u32, index: usize, proposals: &[f32]) -> String {
         match number {
             3 => not_finite(&[("the total", self.total), ("max_substep_dt", self.max_substep_dt)]),
-            _ if self.max_num_substeps == 0 => "max_num_substeps is 0".to_string(),
+            _ if self.max_num_substeps == 0 => no_substeps(),
             _ => {
                 let limit = self.remaining_before(index, proposals).min(self.max_substep_dt);
                 proposal_fault(&format!("proposal {}", index), proposals.get(index).copied().unwrap_or(f32::NAN), limit)
@@ -140,7 +158,7 @@ impl Step {
 
     /// What remains when a proposal is taken, if those before it were.
     fn remaining_before(&self, index: usize, proposals: &[f32]) -> f32 {
-        let least = min_dt(self.total, self.max_num_substeps);
+        let least = min_dt(self.total, self.max_num_substeps).unwrap_or(f32::NAN);
         let taken = |remaining, dt: &f32| substep(remaining, least, self.max_substep_dt, *dt).map(|substep| substep.remaining);
         proposals.iter().take(index).try_fold(self.total, taken).unwrap_or(f32::NAN)
     }

@@ -140,8 +140,16 @@ fn lengths() {
         let AnyStep { total, max_substep_dt, max_num_substeps, stop_after_one_substep, .. } = AnyStep::any(&mut rng);
         let (total, max_num_substeps) =
             (rng.one_of(&[total, total, f32::NAN]), rng.one_of(&[max_num_substeps, max_num_substeps, 0]));
-        let least = unsafe { mk_min_dt(total, max_num_substeps) };
-        assert_eq!(bits([min_dt(total, max_num_substeps)]), bits([least]));
+        let raw = unsafe { mk_min_dt(total, max_num_substeps) };
+        let least = min_dt(total, max_num_substeps).map(|least| bits([least]));
+        assert_eq!(
+            least.map_err(|refused| (refused.number, refused.index)),
+            match raw.number {
+                0 => Ok(bits([raw.length])),
+                number => Err((number, raw.index)),
+            }
+        );
+        let least = rng.one_of(&[raw.length, raw.length, f32::INFINITY]);
         let dts: Vec<f32> = (0..rng.below(5)).filter_map(|_| proposal(total.min(max_substep_dt), &mut rng)).collect();
         let step = Step { total, max_substep_dt, max_num_substeps, stop_after_one_substep: stop_after_one_substep == 1 };
         let (settings, count) = ((total, max_substep_dt, max_num_substeps, stop_after_one_substep), dts.len());

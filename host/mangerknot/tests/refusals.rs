@@ -5,7 +5,7 @@ mod archive;
 mod safe;
 
 use archive::Which;
-use mangerknot::mls_solver::{step_lengths, substep, Step};
+use mangerknot::mls_solver::{min_dt, step_lengths, substep, Step};
 use safe::answer_as_raw;
 use samples::{Call, FRICTION, PARTICLE_FLOATS, PARTICLE_WORDS};
 
@@ -313,6 +313,10 @@ fn steps_and_substeps() {
     assert_eq!(said(&step, &[0.5, 0.0]), "proposal 1 is not above 0 (number 4, index 1)");
     assert_eq!(said(&step, &[f32::NAN]), "proposal 0 is not above 0 (number 4, index 0)");
     assert_eq!(said(&step, &[0.5, 0.25, 0.5]), "proposal 2 is above what it may be at most, 0.25 (number 4, index 2)");
+    let said = |total, count| min_dt(total, count).unwrap_err().to_string();
+    assert_eq!(said(f32::INFINITY, 4), "the total is not finite (number 3, index 0)");
+    assert_eq!(said(f32::NAN, 0), "the total is not finite (number 3, index 0)");
+    assert_eq!(said(-1.0, 0), "max_num_substeps is 0 (number 4, index 0)");
     let said = |remains, least, most, dt| substep(remains, least, most, dt).unwrap_err().to_string();
     assert_eq!(said(f32::NAN, 0.1, 1.0, 0.5), "what remains is not finite (number 3, index 0)");
     assert_eq!(said(1.0, f32::NAN, 1.0, 0.5), "the least length is not finite (number 3, index 0)");

@@ -136,14 +136,15 @@ impl Judge {
         }
     }
 
-    /// A step of the Rust's, and each of its substeps by itself.
+    /// A step of the Rust's, its least length, and each of its substeps by itself.
     fn take_step(&mut self, rng: &mut Rng) {
         let step = leaves::good_step(rng);
         let place = |name: &str| self.leaves.iter().position(|leaf| leaf.name == name).expect("a function");
-        let (whole, single) = (place("mk_step_lengths"), place("mk_substep"));
-        let asked = leaves::numbers(&step);
-        let right = self.leaves[whole].judged(&asked);
-        self.take_numbers(whole, asked, right);
+        let (whole, least, single) = (place("mk_step_lengths"), place("mk_min_dt"), place("mk_substep"));
+        for (place, asked) in [(whole, leaves::numbers(&step)), (least, leaves::least_of(&step))] {
+            let right = self.leaves[place].judged(&asked);
+            self.take_numbers(place, asked, right);
+        }
         for (given, became) in leaves::substeps_of(&step) {
             self.take_numbers(single, given, became);
         }

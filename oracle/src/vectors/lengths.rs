@@ -2,7 +2,7 @@
 //! step that is not refused the lengths are those of the loop in the handed-over `MlsSolver::step`, whose stages run on one particle that
 //! stands still, and whose proposals come from a host who has the question's (`sparkl/lengths.rs`). It keeps what remains to itself:
 //! that is worked out of its lengths, and is what it tells the host before each substep. Of single substeps those that a step took are the
-//! Rust's, the others `reading`'s; the least length is `reading`'s, and a test has it from the Rust wherever that shows it.
+//! Rust's, and of least lengths those that its loop shows; the others are `reading`'s.
 
 use super::floats::{near, written, WILD};
 use super::{decimal, word, Sheet, OF_BOTH};
@@ -11,7 +11,7 @@ use crate::rng::{Rng, SEED};
 use samples::lengths::{proposal, Step, Taken};
 use sparkl2d::lengths::{course_of, random_course, Course};
 
-const LEGEND: [&str; 13] = [
+const LEGEND: [&str; 14] = [
     "Fields, between tabs: W an f32's bits in 8 hex digits, D a decimal.",
     "t the lengths of a step W W D D D W.. = D D D W D: total, max_substep_dt; max_num_substeps, stop_after_one_substep; how many",
     "  proposals there are said to be, and these, W*D for so many in a row that are the same. Number and index; how many substeps were",
@@ -19,11 +19,12 @@ const LEGEND: [&str; 13] = [
     "  left. Where the number is not 0, these three are 0",
     "s one substep W W W W = D D W W: what remains, the least length, max_substep_dt, the proposal. Number and index; the length, and",
     "  what remains after it. Where the number is not 0, these two are +0",
-    "m the least length W D = W: total, max_num_substeps",
+    "m the least length W D = D D W: total, max_num_substeps. Number and index; the length, which is +0 where the number is not 0",
     "A NaN of an answer is 7FC00000.",
     "Numbers are `reading`'s. Of a step that is done, count and end are the Rust's, and what remains is what it tells before each",
-    "substep and, after the last, the one before less the last length. Of single substeps those of such steps are the Rust's; the",
-    "others are `reading`'s, and so is the least length.",
+    "substep and, after the last, the one before less the last length. Of single substeps those of such steps are the Rust's, and of",
+    "least lengths those that are above the least f32 and below the total, to which its loop raises a proposal of the least f32; the",
+    "others are `reading`'s.",
     "End of the header.",
 ];
 
@@ -79,9 +80,24 @@ fn substep_fields(answer: &Result<Substep, Refusal>) -> Vec<String> {
     vec![decimal(number), decimal(index as u64), word(written(length)), word(written(remaining))]
 }
 
+fn least_fields(answer: &Result<f32, Refusal>) -> Vec<String> {
+    let (number, index, length) = match answer {
+        Ok(length) => (0, 0, *length),
+        Err(refusal) => (refusal.number, refusal.index, 0.0),
+    };
+    vec![decimal(number), decimal(index as u64), word(written(length))]
+}
+
+/// The least length where the Rust's loop shows it, which raises the least proposal that there is to it.
+pub fn shown_least(total: f32, max_num_substeps: u32) -> Option<f32> {
+    let proposed = f32::from_bits(1);
+    let course = course_of(&step(total, max_num_substeps, &[proposed]));
+    course.lengths.first().copied().filter(|length| *length != proposed)
+}
+
 /// Each substep of a course: what it was given, and what became of it.
 fn substeps(step: &Step, course: &Course) -> Vec<([f32; 4], Substep)> {
-    let (min, mut before) = (reading::min_dt(step.total, step.max_num_substeps), step.total);
+    let (min, mut before) = (reading::least_length(step.total, step.max_num_substeps), step.total);
     let pairs = course.proposals.iter().zip(&course.lengths);
     let substep = |(proposal, length): (&f32, &f32)| {
         let given = [before, min, step.max_substep_dt, *proposal];
@@ -118,8 +134,9 @@ impl Steps {
     }
 
     fn ask_least(&mut self, total: f32, max_num_substeps: u32) {
-        let least = word(written(reading::min_dt(total, max_num_substeps)));
-        self.sheet.row("m", vec![word(total.to_bits()), decimal(max_num_substeps)], vec![least]);
+        let answer = reading::min_dt(total, max_num_substeps);
+        let answer = answer.map(|least| shown_least(total, max_num_substeps).unwrap_or(least));
+        self.sheet.row("m", vec![word(total.to_bits()), decimal(max_num_substeps)], least_fields(&answer));
     }
 
     /// The cases that documents 01 and READINGS name, one by one.
@@ -158,7 +175,7 @@ impl Steps {
         // Counts that an f32 has no place for, and totals of which so little remains that the least length shows in it.
         let many = [(1.0, 16_777_217), (1.0, 16_777_219), (0.3, 16_777_219), (1.0, 33_554_435), (1.0, u32::MAX)];
         for (total, count) in few.into_iter().chain(many) {
-            let min = reading::min_dt(total, count);
+            let min = reading::least_length(total, count);
             for dt in near(min, 2) {
                 self.ask(&step(total, count, &[dt, dt, dt]));
             }
@@ -175,7 +192,7 @@ impl Steps {
     /// Proposals at what remains and at max_substep_dt, next to them, and what is no length.
     fn proposals_about_their_rule(&mut self) {
         for (total, count) in [(1.0, 1), (1.0, 4), (1e-45, 1), (f32::MAX, 3), (0.1, 1000)] {
-            let quarter = reading::min_dt(total, 4).max(1e-45);
+            let quarter = reading::least_length(total, 4).max(1e-45);
             for first in [vec![], vec![quarter], vec![quarter; 2]] {
                 let remaining = first.iter().fold(total, |rest, dt| rest - dt);
                 let about = near(remaining, 1).into_iter().chain(near(total, 1)).chain(NO_LENGTHS);
@@ -305,6 +322,12 @@ impl Steps {
             let (total, count) = (f32::from_bits(self.rng.word()), self.rng.word() >> self.rng.below(32));
             self.ask_least(total, count);
         }
+        // No substeps, a total that is not finite, and both.
+        for _ in 0..60 {
+            let (total, other) = (f32::from_bits(self.rng.word()), f32::from_bits(self.rng.word() | 0x7F80_0000));
+            let count = self.rng.word() >> self.rng.below(32);
+            [(total, 0), (other, count), (other, 0)].iter().for_each(|(total, count)| self.ask_least(*total, *count));
+        }
     }
 }
 
@@ -365,7 +388,7 @@ mod tests {
         let found = counts(&sheet, |question| match question[0] {
             "t" => ("WWDDD".to_string() + &"*".repeat(question.len() - 6), "DDDFD".to_string()),
             "s" => ("WWWW".to_string(), "DDFF".to_string()),
-            _ => ("WD".to_string(), "F".to_string()),
+            _ => ("WD".to_string(), "DDF".to_string()),
         });
         assert!(found.iter().map(|(letter, _)| letter.as_str()).eq(["m", "s", "t"]));
         assert!(found["t"] > 5000 && found["s"] > 2000 && found["m"] > 500);
@@ -377,9 +400,12 @@ mod tests {
     #[test]
     fn every_number_and_every_end_is_answered_often() {
         let sheet = make();
-        let found = answered(&sheet, "ts");
+        let found = answered(&sheet, "tsm");
         let of = |letter: &str, number: u32| &found[&(letter.to_string(), number)];
         assert!(found.keys().map(|(letter, number)| (letter.as_str(), *number)).eq([
+            ("m", 0),
+            ("m", 3),
+            ("m", 4),
             ("s", 0),
             ("s", 3),
             ("s", 4),
@@ -389,7 +415,8 @@ mod tests {
             ("t", 4)
         ]));
         assert!(found.values().all(|(count, _)| *count >= 30));
-        assert!(of("t", 4).1.len() > 8 && [of("t", 1), of("t", 3), of("s", 4)].iter().all(|(_, indices)| indices.len() == 1));
+        let others = [of("t", 1), of("t", 3), of("s", 4), of("m", 3), of("m", 4)];
+        assert!(of("t", 4).1.len() > 8 && others.iter().all(|(_, indices)| indices.len() == 1));
         let mut ends: BTreeMap<String, usize> = BTreeMap::new();
         for (_, answer) in steps(&sheet).into_iter().filter(|(_, answer)| answer[0] == "0") {
             *ends.entry(answer[4].clone()).or_default() += 1;
@@ -411,6 +438,17 @@ mod tests {
             assert!(step.total <= 0.0 || remaining >= 0.0);
         }
         assert!([beyond, left_over, raised].iter().all(|count| *count > 200), "{:?}", [beyond, left_over, raised]);
+    }
+
+    /// total/max_num_substeps, with one thing wrong about it.
+    fn quotient(total: f32, count: u32, wrong: &str) -> f32 {
+        let nearest = count as f32;
+        match wrong {
+            "count cut to an f32" => total / f32::from_bits(nearest.to_bits() - u32::from(nearest as u64 > u64::from(count))),
+            "least length in f64" => (f64::from(total) / f64::from(count)) as f32,
+            "least length by an inverse" => total * (1.0 / nearest),
+            _ => total / nearest,
+        }
     }
 
     /// Documents 01 and READINGS on lengths once more, with one thing wrong about them.
@@ -449,22 +487,11 @@ mod tests {
         if let (true, Some(index)) = (wrong == "every proposal looked at", dts.iter().position(|dt| !in_order(*dt, f32::MAX))) {
             return refused(4, index);
         }
-        let count_as_float = match wrong {
-            "count cut to an f32" => {
-                let nearest = *max_num_substeps as f32;
-                f32::from_bits(nearest.to_bits() - u32::from(nearest as u64 > u64::from(*max_num_substeps)))
-            }
-            _ => *max_num_substeps as f32,
-        };
         let mut min = match wrong {
-            "least length in f64" => (f64::from(*total) / f64::from(*max_num_substeps)) as f32,
-            "least length by an inverse" => total * (1.0 / count_as_float),
-            "least length of the limit" => max_substep_dt / count_as_float,
-            _ => total / count_as_float,
+            "least length of the limit" => quotient(*max_substep_dt, *max_num_substeps, wrong),
+            "no least length" => 0.0,
+            _ => quotient(*total, *max_num_substeps, wrong),
         };
-        if wrong == "no least length" {
-            min = 0.0;
-        }
         let (mut remaining, mut count) = (*total, 0);
         loop {
             let finished = if wrong == "finished below 0 alone" { remaining < 0.0 } else { !(remaining > 0.0) };
@@ -497,7 +524,7 @@ mod tests {
             }
             let dt = if wrong == "proposals cut to the limit" { dts[count].min(limit) } else { dts[count] };
             if wrong == "least length of what remains" {
-                min = remaining / count_as_float;
+                min = quotient(remaining, *max_num_substeps, wrong);
             }
             let raised = match wrong {
                 "raised where the least remains" => dt < min && remaining >= min,
@@ -595,19 +622,64 @@ mod tests {
         assert!(taken > 100_000, "{}", taken);
     }
 
-    /// A proposal that is next to nothing is raised to the least length, so that the Rust shows it.
-    #[test]
-    fn the_least_length_is_the_rusts() {
-        let mut shown = 0;
-        for (question, answer) in rows(&make()).filter(|(question, _)| question[0] == "m") {
-            let total = f32::from_bits(u32::from_str_radix(question[1], 16).unwrap());
-            let (count, least) = (question[2].parse().unwrap(), f32::from_bits(u32::from_str_radix(answer[0], 16).unwrap()));
-            if total.is_finite() && least > 1e-45 && total > least {
-                assert_eq!(course_of(&step(total, count, &[1e-45])).lengths, [least]);
-                shown += 1;
-            }
+    /// What a call of the least length is refused for, and what it answers, with one thing wrong about it.
+    fn least_by_hand(total: f32, count: u32, wrong: &str) -> Result<f32, Refusal> {
+        let mut rules = [
+            (3, !total.is_nan() || wrong == "NaN accepted"),
+            (3, total != f32::INFINITY || wrong == "infinity accepted"),
+            (3, total != f32::NEG_INFINITY || wrong == "minus infinity accepted"),
+            (3, total != 0.0 || wrong != "a total of 0 refused"),
+            (3, !(total < 0.0) || wrong != "a total below 0 refused"),
+            (4, count != 0 || wrong == "no substeps accepted"),
+            (4, count != 1 || wrong != "one substep refused"),
+        ];
+        if wrong == "count before total" {
+            rules.reverse();
         }
-        assert!(shown > 150, "{}", shown);
+        match rules.iter().find(|(_, holds)| !holds) {
+            Some(_) if wrong == "refused with 4 throughout" => Err(Refusal { number: 4, index: 0 }),
+            Some((number, _)) => Err(Refusal { number: *number, index: 0 }),
+            None => Ok(quotient(total, count, wrong)),
+        }
+    }
+
+    const WRONG_LEAST: [&str; 12] = [
+        "NaN accepted",
+        "infinity accepted",
+        "minus infinity accepted",
+        "a total of 0 refused",
+        "a total below 0 refused",
+        "no substeps accepted",
+        "one substep refused",
+        "count before total",
+        "refused with 4 throughout",
+        "count cut to an f32",
+        "least length in f64",
+        "least length by an inverse",
+    ];
+
+    /// The least length is the reading's, which is the Rust's wherever its loop shows it, and every wrong rule is told from it.
+    #[test]
+    fn the_least_length_is_the_rusts_and_document_01s() {
+        let sheet = make();
+        let all: Vec<(f32, u32, Vec<&str>)> = rows(&sheet)
+            .filter(|(question, _)| question[0] == "m")
+            .map(|(question, answer)| {
+                let total = f32::from_bits(u32::from_str_radix(question[1], 16).unwrap());
+                (total, question[2].parse().unwrap(), answer)
+            })
+            .collect();
+        let done = all.iter().filter(|(_, _, answer)| answer[0] == "0");
+        let shown = done.filter(|(total, count, _)| shown_least(*total, *count).is_some()).count();
+        assert!(shown > 200, "{}", shown);
+        assert!(all.iter().all(|(total, count, answer)| least_fields(&reading::min_dt(*total, *count)) == *answer));
+        let told = |wrong: &str| {
+            all.iter().filter(|(total, count, answer)| least_fields(&least_by_hand(*total, *count, wrong)) != *answer).count()
+        };
+        assert_eq!(told(""), 0);
+        for wrong in WRONG_LEAST {
+            assert!(told(wrong) > 0, "{}", wrong);
+        }
     }
 
     /// What the Rust makes of steps that the table refuses.

@@ -8,7 +8,7 @@ pub mod gather;
 mod grid;
 #[cfg(test)]
 mod hands;
-mod lengths;
+pub mod lengths;
 mod listing;
 pub mod numeric;
 pub mod packing;

@@ -8,6 +8,7 @@ use crate::lent::Lent;
 use mangerknot_sys::*;
 use oracle::reading;
 use oracle::vectors::floats::{near, wild_or_not, WIDTHS};
+use oracle::vectors::lengths::shown_least;
 use oracle::vectors::numeric::{answers, is_settled};
 use oracle::vectors::packing::{self, cell_of_region, number_in_region, random_id, rust_2d, rust_3d, sums_by_mask, COLOUR_BOUND};
 use samples::lengths::{proposal, Step, Taken};
@@ -504,11 +505,14 @@ fn lengths() -> Vec<Leaf> {
                 let taken = unsafe { mk_substep(float(a[0]), float(a[1]), float(a[2]), float(a[3])) };
                 vec![u64::from(taken.number), taken.index as u64, bits(taken.length), bits(taken.remaining)]
             }, |_, a| judged_substep(a);
-        mk_min_dt "m", "WD", |rng| vec![any_bits(rng), any_coordinate(rng)],
-            |a| vec![bits(unsafe { mk_min_dt(float(a[0]), a[1] as u32) })], |_, a| vec![bits(reading::min_dt(float(a[0]), a[1] as u32))];
+        mk_min_dt "m", "WD", any_least,
+            |a| {
+                let LeastLength { number, index, length } = unsafe { mk_min_dt(float(a[0]), a[1] as u32) };
+                vec![u64::from(number), index as u64, bits(length)]
+            }, |_, a| judged_least(float(a[0]), a[1] as u32);
     ];
     found[0].least = 5;
-    found[..2].iter_mut().for_each(|leaf| leaf.refuses = true);
+    found.iter_mut().for_each(|leaf| leaf.refuses = true);
     found
 }
 
@@ -556,10 +560,18 @@ fn judged_substep(asked: &[u64]) -> Vec<u64> {
     }
 }
 
+/// What is refused is `reading`'s, and so is what the Rust's loop does not show; the others are the Rust's.
+fn judged_least(total: f32, max_num_substeps: u32) -> Vec<u64> {
+    match reading::min_dt(total, max_num_substeps) {
+        Err(refusal) => vec![u64::from(refusal.number), refusal.index as u64, 0],
+        Ok(least) => vec![0, 0, bits(shown_least(total, max_num_substeps).unwrap_or(least))],
+    }
+}
+
 /// The substeps that the Rust takes in a step which is not refused: what each is given, and what becomes of it.
 pub fn substeps_of(step: &Step) -> Vec<(Vec<u64>, Vec<u64>)> {
     let course = course_of(step);
-    let (min, mut before) = (reading::min_dt(step.total, step.max_num_substeps), step.total);
+    let (min, mut before) = (reading::least_length(step.total, step.max_num_substeps), step.total);
     let pairs = course.proposals.iter().zip(&course.lengths);
     let substep = |(proposal, length): (&f32, &f32)| {
         let given = all_kept(&[before, min, step.max_substep_dt, *proposal]);
@@ -572,7 +584,7 @@ pub fn substeps_of(step: &Step) -> Vec<(Vec<u64>, Vec<u64>)> {
 /// A step that no rule refuses, with as many proposals as it takes and few more, or with too few.
 pub fn good_step(rng: &mut Rng) -> Step {
     let settings = Step::any(rng);
-    let min = reading::min_dt(settings.total, settings.max_num_substeps);
+    let min = reading::least_length(settings.total, settings.max_num_substeps);
     let most = rng.one_of(&[1, 4, 12, 40]);
     let most = rng.below(most + 1);
     let (mut remaining, mut dts) = (settings.total, vec![]);
@@ -607,6 +619,20 @@ fn any_step(rng: &mut Rng) -> Vec<u64> {
             _ => asked[place] = any_bits(rng),
         }
     }
+    asked
+}
+
+/// What a step's least length is asked with.
+pub fn least_of(step: &Step) -> Vec<u64> {
+    vec![u64::from(step.total.to_bits()), u64::from(step.max_num_substeps)]
+}
+
+/// That of a good step, as it is or with another total, another count or both.
+fn any_least(rng: &mut Rng) -> Vec<u64> {
+    let mut asked = least_of(&Step::any(rng));
+    let (any, other, count) = (any_bits(rng), u64::from(rng.word() | 0x7F80_0000), any_coordinate(rng));
+    asked[0] = rng.one_of(&[asked[0], asked[0], any, any, other]);
+    asked[1] = rng.one_of(&[asked[1], asked[1], count, count, 0]);
     asked
 }
 
@@ -705,15 +731,27 @@ mod tests {
         assert!(count > 300, "{}", count);
     }
 
-    /// Of steps made at random some are done, and each number is answered.
+    /// Of steps, substeps and least lengths made at random some are done, and each number is answered.
     #[test]
-    fn steps_are_done_and_refused() {
-        let (mut rng, mut numbers, leaf) = (Rng::new(4), [0; 5], named("mk_step_lengths"));
-        for _ in 0..2000 {
-            let asked = any_step(&mut rng);
-            numbers[leaf.number(&leaf.judged(&asked)) as usize] += 1;
+    fn lengths_are_done_and_refused() {
+        let mut rng = Rng::new(4);
+        for (leaf, own) in lengths().into_iter().zip([&[0, 1, 3, 4][..], &[0, 3, 4], &[0, 3, 4]]) {
+            let mut numbers = [0; 5];
+            for _ in 0..2000 {
+                let asked = (leaf.make)(&mut rng);
+                numbers[leaf.number(&leaf.judged(&asked)) as usize] += 1;
+            }
+            assert!((0..5).all(|number| own.contains(&number) == (numbers[number] > 50)), "{}: {:?}", leaf.name, numbers);
         }
-        assert!([0, 1, 3, 4].iter().all(|number| numbers[*number] > 50) && numbers[2] == 0, "{:?}", numbers);
+    }
+
+    /// Of good steps' least lengths the Rust shows most.
+    #[test]
+    fn least_lengths_are_shown() {
+        let mut rng = Rng::new(8);
+        let shown =
+            (0..1000).map(|_| Step::any(&mut rng)).filter(|step| shown_least(step.total, step.max_num_substeps).is_some());
+        assert!(shown.count() > 500);
     }
 
     #[test]

@@ -8,7 +8,7 @@ use Rattle.lengths.proofs.mls_solver.step_lengths.Tie as tie
 
 returns : tie.Need-returns
 unfolding stepLengths
-returns c = rw (sym (c .before .before .before .before .check-step .ensures) ∙ c .before .before .enum-told .given .1, ← c .before .min-dt .ensures) (c .take-substeps .ensures)
+returns c = rw (sym (c .before .before .before .before .check-step .ensures) ∙ c .before .before .enum-told .given .1, ← c .before .min-of .ensures) (c .take-substeps .ensures)
 
 returns-2 : tie.Need-returns-2
 unfolding stepLengths

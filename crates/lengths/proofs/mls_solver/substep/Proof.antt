@@ -2,38 +2,23 @@
 -- Assumes nothing.
 use mathlib.Core.Bool.{and-true}
 use borrow.Author.Needs.{needs}
-use Rattle.grid.specs.Table.{finite}
 use Rattle.lengths.specs.Lengths.{substepCheck, substep}
 use Rattle.lengths.proofs.mls_solver.substep.Statement.{statement}
 use Rattle.lengths.proofs.mls_solver.substep.Tie as tie
 
 returns : tie.Need-returns
 unfolding substep substepCheck
-returns c =
-    rw (and-true (finite (c .before .before .before .before .args .max-substep-dt)), ← c .before .before .before .is-finite .ensures, ← c .before .before .is-finite2 .ensures, ← c .before .is-finite3 .ensures, c .if1 .taken)
+returns c = rw (← c .before .are-finite .ensures, c .if1 .taken)
 
 returns-2 : tie.Need-returns-2
 unfolding substep substepCheck
-returns-2 c =
-    rw (
-      and-true (finite (c .before .before .before .before .before .before .args .max-substep-dt)),
-      ← c .before .before .before .before .before .is-finite .ensures,
-      ← c .before .before .before .before .is-finite2 .ensures,
-      ← c .before .before .before .is-finite3 .ensures,
-      c .before .before .if1 .left,
-      and-true,
-      ← c .before .is-allowed .ensures,
-      c .if2 .taken,
-    )
+returns-2 c = rw (← c .before .before .before .are-finite .ensures, c .before .before .if1 .left, and-true, ← c .before .is-allowed .ensures, c .if2 .taken)
 
 returns-3 : tie.Need-returns-3
 unfolding substep substepCheck
 returns-3 c =
     rw (
-      and-true (finite (c .before .before .before .before .before .before .before .args .max-substep-dt)),
-      ← c .before .before .before .before .before .before .is-finite .ensures,
-      ← c .before .before .before .before .before .is-finite2 .ensures,
-      ← c .before .before .before .before .is-finite3 .ensures,
+      ← c .before .before .before .before .are-finite .ensures,
       c .before .before .before .if1 .left,
       and-true,
       ← c .before .before .is-allowed .ensures,
@@ -42,4 +27,4 @@ returns-3 c =
     )
 
 pub substep-spec : {M : Type 1} → statement M
-substep-spec = tie.close (tie.spec (λ c κs. search needs) (λ c κs. search needs) (λ c κs. search needs) returns (λ c κs. search needs) returns-2 (λ c κs. search needs) returns-3)
+substep-spec = tie.close (tie.spec (λ c κs. search needs) returns (λ c κs. search needs) returns-2 (λ c κs. search needs) returns-3)
