@@ -79,7 +79,7 @@ pub fn feed(
 }
 
 // The text cannot be read on: nor can then the line that it stops in.
-pub fn broken(reader: Reader) -> Reader
+fn broken(reader: Reader) -> Reader
     ensures { λ q. ⌜ ((m : Memory) → record { reader = q; memory = m } ≡ spoiled (record { reader = reader; memory = m })) ⌝ }
 {
     let settings = reader.settings;

@@ -159,14 +159,17 @@ fn check_records(
     if is_accepted(cell_width, ids, ranges, pf, pw, particles) {
         return check_given(cf, jf, jw);
     }
+    let codes = first_particle(Rule::Code, cell_width, ids, 0, pf, pw, 0, particles);
+    let not_finite = first_particle(Rule::NotFinite, cell_width, ids, 0, pf, pw, 0, particles);
+    let frictions = check_numbers(cf, COLLIDER_FLOATS);
     first_refusal(
-        first_particle(Rule::Code, cell_width, ids, 0, pf, pw, 0, particles),
+        codes,
         first_refusal(
             check_flags(jw),
             first_refusal(
-                first_particle(Rule::NotFinite, cell_width, ids, 0, pf, pw, 0, particles),
+                not_finite,
                 first_refusal(
-                    check_numbers(cf, COLLIDER_FLOATS),
+                    frictions,
                     first_refusal(
                         check_numbers(jf, PROJECTION_FLOATS),
                         check_places(cell_width, ids, ranges, pf, pw, particles),

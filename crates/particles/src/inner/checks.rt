@@ -84,9 +84,10 @@ pub fn check_stage(
     check_particles(h, ids, ranges, pf, pw, particles)
 }
 
-// Numbers 1 to 3 of a stage, and what is found of its own in 4. No record is looked at, so that lists of any length are refused at once.
+// Numbers 1 to 3 of a stage, of which `good` says whether its settings are, and what is found of its own in 4. No record is looked at, so that lists of any length are refused at
+// once.
 pub fn check_lists(
-    settings: bool,
+    good: bool,
     own: Answer,
     regions: usize,
     ids: &[u64],
@@ -97,14 +98,14 @@ pub fn check_lists(
     nf: usize,
     nw: usize,
 ) -> Answer
-    ensures { λ a. ⌜ a ≡ called (matches (stageLengths regions (now (ids .entry)) (now (ranges .entry)) particles (store (now (pf .entry)) (now (pw .entry))) nf nw)) (limits regions particles 0) settings own ⌝ }
+    ensures { λ a. ⌜ a ≡ called (matches (stageLengths regions (now (ids .entry)) (now (ranges .entry)) particles (store (now (pf .entry)) (now (pw .entry))) nf nw)) (limits regions particles 0) good own ⌝ }
 {
     check_call(
         (ids.len() == regions)
             & (fits(ranges.len(), regions, RANGE_WORDS)
                 & (holds_particles(particles, pf.len(), pw.len()) & holds_nodes(regions, nf, nw))),
         check_limits(regions, particles, 0),
-        settings,
+        good,
         own,
     )
 }

@@ -1,6 +1,7 @@
 -- `solver::check_in_order` meets its contract: the order's length, then the lists, the order, the particles.
 -- Assumes nothing.
 use mathlib.Core.Path.{sym, _∙_}
+use native.Mathlib.Omega.{arith}
 use borrow.Author.Needs.{needs}
 use denote.Ref.{now}
 use Rattle.numeric.specs.Axes.{axes}
@@ -15,13 +16,13 @@ use Rattle.solver.proofs.check_in_order.Statement.{statement}
 use Rattle.solver.proofs.check_in_order.Tie as tie
 
 returns : tie.Need-returns
-returns c = too-long _ _ _ _ _ _ _ _ _ _ _ (c .if1 .taken)
+returns c = too-long _ _ _ _ _ _ _ _ _ _ _ (λ e. omega (arith, e))
 
 returns-2 : tie.Need-returns-2
 returns-2 c =
     let g = c .before .before .before .before .before .before .before .before .before .before .before .before .args in
     rw (
-      in-steps (now (g .order)) (g .cell-width) (g .dt) (axes (g .gravity)) (g .regions) (now (g .ids)) (now (g .ranges)) (g .particles) (store (now (g .pf)) (now (g .pw))) (g .nf) (g .nw) (c .before .before .before .before .before .before .if1 .left),
+      in-steps (now (g .order)) (g .cell-width) (g .dt) (axes (g .gravity)) (g .regions) (now (g .ids)) (now (g .ranges)) (g .particles) (store (now (g .pf)) (now (g .pw))) (g .nf) (g .nw) (omega (arith, c .before .before .before .before .before .before .if1 .left)),
       ← c .before .before .before .before .before .is-width .ensures,
       ← c .before .before .before .before .is-step .ensures,
       ← c .before .before .before .is-finite-vector .ensures,
@@ -33,7 +34,7 @@ returns-3 : tie.Need-returns-3
 returns-3 c =
     let g = c .before .before .before .before .before .before .before .before .before .before .before .before .before .before .before .args in
     rw (
-      in-steps (now (g .order)) (g .cell-width) (g .dt) (axes (g .gravity)) (g .regions) (now (g .ids)) (now (g .ranges)) (g .particles) (store (now (g .pf)) (now (g .pw))) (g .nf) (g .nw) (c .before .before .before .before .before .before .before .before .before .if1 .left),
+      in-steps (now (g .order)) (g .cell-width) (g .dt) (axes (g .gravity)) (g .regions) (now (g .ids)) (now (g .ranges)) (g .particles) (store (now (g .pf)) (now (g .pw))) (g .nf) (g .nw) (omega (arith, c .before .before .before .before .before .before .before .before .before .if1 .left)),
       ← c .before .before .before .before .before .before .before .before .is-width .ensures,
       ← c .before .before .before .before .before .before .before .is-step .ensures,
       ← c .before .before .before .before .before .before .is-finite-vector .ensures,
@@ -52,7 +53,7 @@ returns-4 : tie.Need-returns-4
 returns-4 c =
     let g = c .before .before .before .before .before .before .before .before .before .before .before .before .before .before .before .before .args in
     rw (
-      in-steps (now (g .order)) (g .cell-width) (g .dt) (axes (g .gravity)) (g .regions) (now (g .ids)) (now (g .ranges)) (g .particles) (store (now (g .pf)) (now (g .pw))) (g .nf) (g .nw) (c .before .before .before .before .before .before .before .before .before .before .if1 .left),
+      in-steps (now (g .order)) (g .cell-width) (g .dt) (axes (g .gravity)) (g .regions) (now (g .ids)) (now (g .ranges)) (g .particles) (store (now (g .pf)) (now (g .pw))) (g .nf) (g .nw) (omega (arith, c .before .before .before .before .before .before .before .before .before .before .if1 .left)),
       ← c .before .before .before .before .before .before .before .before .before .is-width .ensures,
       ← c .before .before .before .before .before .before .before .before .is-step .ensures,
       ← c .before .before .before .before .before .before .before .is-finite-vector .ensures,

@@ -35,9 +35,9 @@ returns-2 c =
     rw (
       unless-end,
       ← c .before .before .before .before .before .before .before .before .before .before .first-particle .ensures,
-      ← c .before .before .before .before .before .before .before .before .before .check-flags .ensures,
-      ← c .before .before .before .before .before .before .before .before .first-particle2 .ensures,
-      ← c .before .before .before .before .before .before .before .check-numbers .ensures,
+      ← c .before .before .before .before .before .before .before .before .before .first-particle2 .ensures,
+      ← c .before .before .before .before .before .before .before .before .check-numbers .ensures,
+      ← c .before .before .before .before .before .before .before .check-flags .ensures,
       ← c .before .before .before .before .before .before .check-numbers2 .ensures,
       ← c .before .before .before .before .before .check-places .ensures,
       ← c .before .before .before .before .first-refusal .ensures,

@@ -2,6 +2,7 @@
 -- Assumes nothing.
 use mathlib.Core.Path.{sym, _∙_}
 use mathlib.Core.Bool.{and-true}
+use native.Mathlib.Omega.{arith}
 use borrow.Author.Needs.{needs}
 use denote.Ref.{now}
 use Rattle.laws.specs.Store.{store}
@@ -20,8 +21,9 @@ returns c =
 check-particles-requires : tie.Need-check-particles-requires
 check-particles-requires c κs =
     let g = c .before .before .before .before .before .before .before .args in
-    looked-at (g .regions) (now (g .ids)) (now (g .ranges)) (g .particles) (store (now (g .pf)) (now (g .pw))) (g .nf) (g .nw) (limits (g .regions) (g .particles) 0) (g .settings) (g .own)
-    (sym (c .before .before .check-lists .ensures) ∙ c .enum-told .given .1)
+    let there = looked-at (g .regions) (now (g .ids)) (now (g .ranges)) (g .particles) (store (now (g .pf)) (now (g .pw))) (g .nf) (g .nw) (limits (g .regions) (g .particles) 0) (g .settings) (g .own)
+    (sym (c .before .before .check-lists .ensures) ∙ c .enum-told .given .1) in
+    (there .0, omega (arith, there .1), omega (arith, there .2))
 
 returns-2 : tie.Need-returns-2
 returns-2 c =
