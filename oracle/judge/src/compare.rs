@@ -2,6 +2,7 @@
 //! `reading`'s, all else the handed-over Rust's, or Rust's own.
 
 mod damage;
+pub mod hostile;
 mod leaves;
 mod shrink;
 mod stages;

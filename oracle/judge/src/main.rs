@@ -4,6 +4,8 @@
 //!                                  more to the end of a round; counts by function and by number; the smallest call that differs, if
 //!                                  any, in the vectors' fields; status 1 where something differs or a function was left out
 //!     judge round SEED ROUND       one round of these by itself, each call printed before it is asked; status 1 where something differs
+//!     judge hostile                every call that is lent lists, of 1,000,000 entries: what it answers and how long that takes; status 1 where
+//!                                  one is not refused at once, or writes
 //!     judge replay                 a call that was printed once more, from its lines on standard input; status 1 where it differs
 //!     judge listings SEED COUNT    so many damaged bench listings, and good ones among them, in one process: text in, text out; status 1 at the
 //!                                  first answer that is not the oracle's, in room enough and in too little
@@ -44,6 +46,7 @@ fn main() -> ExitCode {
     let done = match words[..] {
         ["compare", seed, count] => numbers(seed, count).map(|(seed, count)| compare::run(seed, count)),
         ["round", seed, round] => numbers(seed, round).map(|(seed, round)| compare::round(seed, round)),
+        ["hostile"] => Some(compare::hostile::run()),
         ["replay"] => input().and_then(|told| compare::replay(&told)),
         ["listings", seed, count] => numbers(seed, count).map(|(seed, count)| listings::run(seed, count)),
         ["program", seed, count, file, ref words @ ..] => {
@@ -61,7 +64,7 @@ fn main() -> ExitCode {
         Some(false) => ExitCode::FAILURE,
         None => {
             eprintln!(
-                "judge compare SEED COUNT, round SEED ROUND, replay with a call's lines, listings SEED COUNT, \
+                "judge compare SEED COUNT, round SEED ROUND, hostile, replay with a call's lines, listings SEED COUNT, \
                  program SEED COUNT FILE WORDS.., time [REPETITIONS above 0], once SIDE TASK PARTICLES, or slump [SUBSTEPS above 0]"
             );
             ExitCode::from(2)

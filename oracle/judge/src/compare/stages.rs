@@ -66,6 +66,21 @@ impl Kind {
         self.about().name
     }
 
+    /// The archive's call of that kind; the place is one region's, and the order all regions'.
+    pub fn which(self, place: u64, order: &[u64]) -> archive::Which<'_> {
+        match self {
+            Kind::Clear => archive::Which::Clear,
+            Kind::All => archive::Which::All,
+            Kind::Region => archive::Which::Region(place as usize),
+            Kind::Order => archive::Which::Order(order),
+            Kind::Update => archive::Which::Update,
+            Kind::Sequence => archive::Which::Sequence,
+            Kind::FirstHalf => archive::Which::FirstHalf,
+            Kind::SecondHalf => archive::Which::SecondHalf,
+            Kind::Fluids => archive::Which::Fluids,
+        }
+    }
+
     /// The letters of settings, counts and lists that such a call is given.
     pub fn given(self) -> &'static str {
         self.about().given
@@ -122,23 +137,13 @@ impl Asked {
 
     /// What the archive leaves.
     pub fn ports(&self) -> Left {
-        let which = match self.kind {
-            Kind::Clear => archive::Which::Clear,
-            Kind::All => archive::Which::All,
-            Kind::Region => archive::Which::Region(self.place as usize),
-            Kind::Order => archive::Which::Order(&self.order),
-            Kind::Update => archive::Which::Update,
-            Kind::Sequence => archive::Which::Sequence,
-            Kind::FirstHalf => archive::Which::FirstHalf,
-            Kind::SecondHalf => archive::Which::SecondHalf,
-            Kind::Fluids => archive::Which::Fluids,
-        };
+        let which = self.kind.which(self.place, &self.order);
         let (refusal, [particles, nodes], is_kept) = guarded::ask_and_look(&which, &self.call);
         Left { refusal: (refusal.number, refusal.index), particles, nodes, is_kept, computed: vec![] }
     }
 
     /// What `reading` refuses it for.
-    fn refused(&self) -> Option<Refusal> {
+    pub fn refused(&self) -> Option<Refusal> {
         let call = &self.call;
         match self.kind {
             Kind::Clear => reading::clear(call.regions, &call.ids, call.node_floats.len() as u64, call.node_words.len() as u64),
