@@ -2,6 +2,7 @@
 
 use super::stages::{Asked, Kind, KINDS};
 use crate::archive;
+use crate::watch::Watch;
 use samples::lengths::Step;
 use samples::{Boundary, Call, Gather, GIVEN_FLOATS, NONE, PARTICLE_FLOATS, PARTICLE_WORDS, PROJECTION_FLOATS, REGION_NODES};
 use std::time::{Duration, Instant};
@@ -71,7 +72,8 @@ fn hostile(entries: usize) -> impl Iterator<Item = Hostile> {
         ways.into_iter().filter(|way| way.1).map(move |(what, _, call)| {
             let mut asked = Asked::new(kind, call(entries));
             if in_order {
-                asked.order = vec![0; if what == ALONE { entries } else { asked.call.regions as usize }];
+                // No entry stands there twice, and all are of one colour, so that none ends a search.
+                asked.order = (0..if what == ALONE { entries as u64 } else { asked.call.regions }).collect();
             }
             Hostile { asked, what }
         })
@@ -116,6 +118,7 @@ fn run_of(entries: usize, limit: Duration) -> bool {
         limit.as_millis(),
         TRIES
     );
+    let watch = Watch::start();
     let mut is_good = true;
     let mut tell = |name: &str, what: &str, answer: (u32, usize), right: (u32, usize), took: Duration, is_kept: bool| {
         let fault = match (answer == right, took <= limit, is_kept) {
@@ -131,6 +134,7 @@ fn run_of(entries: usize, limit: Duration) -> bool {
         let right = asked.refused().map_or((0, 0), |refusal| (refusal.number, refusal.index));
         let Asked { kind, place, order, mut call } = asked;
         let which = kind.which(place, &order);
+        watch.on(format_args!("ended in {} on {} of {}", kind.name(), entries, what));
         let (answer, took) = fastest(|| archive::answer_in_place(&which, &mut call));
         let written = [&call.particle_floats, &call.particle_words, &call.node_floats, &call.node_words];
         let is_kept = written.into_iter().all(|list| list.iter().all(|word| *word == 0));
