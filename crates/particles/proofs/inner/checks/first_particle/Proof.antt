@@ -57,28 +57,27 @@ loop-holds c =
 read-particle-requires : tie.Need-read-particle-requires Inv-loop μ-loop
 read-particle-requires c κs = omega arith
 
--- what is found of the particle that is read
-found : (c : tie.After-judge Inv-loop μ-loop) → let a = c .before .before .before .before .before .before .before .args in
-    c .judge .result ≡ at (a .rule) (a .h) (a .ids .now) (a .region) (store (a .pf .now) (a .pw .now)) (a .start + a .count - c .before .before .before .loop .left)
-found c =
-    let a = c .before .before .before .before .before .before .before .args in
-    let p = a .start + a .count - c .before .before .before .loop .left in
-    c .judge .ensures ∙ ap (λ (q : Particle). refuse (judged (a .rule) (a .h) (a .ids .now) (a .region) q) (a .rule) p) (c .before .read-particle .ensures)
-
 returns : tie.Need-returns Inv-loop μ-loop
 returns c =
     let a = c .before .before .before .before .before .before .before .before .before .args in
     let l = c .before .before .before .before .before .loop in
-    let found = found (c .before .before) in
-    sym (l .inv .1 ∙ stop (at (a .rule) (a .h) (a .ids .now) (a .region) (store (a .pf .now) (a .pw .now))) (a .start + a .count) (l .left) (omega arith) (omega arith) (c .before .before .judge .result) found (stops (c .before .before .judge .result) (c .before .match .keys2)))
+    let s = store (a .pf .now) (a .pw .now) in
+    sym (l .inv .1
+    ∙ stop (at (a .rule) (a .h) (a .ids .now) (a .region) s) (a .start + a .count) (l .left) (omega arith) (omega arith) (c .before .before .judge .result)
+    (c .before .before .judge .ensures ∙ ap (λ (q : Particle). refuse (judged (a .rule) (a .h) (a .ids .now) (a .region) q) (a .rule) (a .start + a .count - l .left)) (c .before .before .before .read-particle .ensures))
+    (stops (c .before .before .judge .result) (c .before .match .keys2)))
 
 loop-again : tie.Need-loop-again Inv-loop μ-loop
 loop-again c =
     let a = c .before .before .before .before .before .before .before .before .before .args in
     let l = c .before .before .before .before .before .loop in
-    let found = found (c .before .before) in (
+    let s = store (a .pf .now) (a .pw .now) in (
       omega arith,
-      l .inv .1 ∙ go (at (a .rule) (a .h) (a .ids .now) (a .region) (store (a .pf .now) (a .pw .now))) (a .start + a .count) (l .left) (omega arith) (omega arith) (ap refused (sym found ∙ c .enum-told .given .1)),
+      l .inv .1
+          ∙ go (at (a .rule) (a .h) (a .ids .now) (a .region) s) (a .start + a .count) (l .left) (omega arith) (omega arith)
+          (ap refused
+          (sym (c .before .before .judge .ensures ∙ ap (λ (q : Particle). refuse (judged (a .rule) (a .h) (a .ids .now) (a .region) q) (a .rule) (a .start + a .count - l .left)) (c .before .before .before .read-particle .ensures))
+          ∙ c .enum-told .given .1)),
     )
 
 returns-2 : tie.Need-returns-2 Inv-loop μ-loop
