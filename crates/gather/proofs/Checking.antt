@@ -1,5 +1,5 @@
 -- The checks of both halves in the steps in which the code makes them, and what they have shown where they refuse nothing. Assumes nothing.
-use mathlib.Core.Path.{_≡_, ap, _∙_}
+use mathlib.Core.Path.{_≡_, refl, ap, _∙_}
 use mathlib.Core.Bool.{Bool, true, false, _&&_, not}
 use mathlib.Core.List.{List, [], _∷_}
 use Prim.Native.Nat.{ℕ, _*_}
@@ -8,17 +8,19 @@ use lib.Ieee.{Float}
 use lib.ListN.{length}
 use borrow.Author.Tests.{eqb-true}
 use Rattle.laws.specs.Store.{Store, store, Holds}
+use Rattle.laws.specs.Hits.{run, gather, changes}
+use Rattle.laws.specs.Refusals as Refusals
 use Rattle.laws.proofs.Refusals.{unless-passed}
 use Rattle.grid.specs.Answers.{refused, refuse, unless}
-use Rattle.grid.specs.Table.{matches, limits, goodWidth, goodStep, called, codes, isFlag, before}
+use Rattle.grid.specs.Table.{matches, limits, goodWidth, goodStep, called, codes, isFlag, flags, numbers, before}
 use Rattle.grid.specs.declared.Answer.the-variants.{Done}
 use Rattle.grid.specs.declared.Rule.the-variants.{Length}
 use Rattle.grid.proofs.Lengths.{and-split, regroup}
 use Rattle.grid.proofs.Steps.{called-then, passed}
 use Rattle.particles.specs.Particles.{particleFloats, particleWords, particleForm}
-use Rattle.particles.specs.Table.{particleLengths, Ready}
-use Rattle.particles.proofs.Staging.{staged}
-use Rattle.gather.specs.Gather.{givenFloats, givenWords, givenLengths, firstCheck, recordsCheck, secondCheck}
+use Rattle.particles.specs.Table.{particleLengths, firstParticle, Ready}
+use Rattle.particles.proofs.Staging.{staged, empty}
+use Rattle.gather.specs.Gather.{givenFloats, givenWords, givenLengths, firstHalf, secondHalf, firstCheck, recordsCheck, secondCheck, Empty}
 use Rattle.gather.proofs.Ranging.{all-taken}
 
 -- a first half that is not refused has what it builds on, and its regions have all particles
@@ -68,3 +70,15 @@ module _ (count : ℕ) (s given : Store) where
       let first = called fitting (limits 0 count 0) true Done in
       let steps : refused (unless first (recordsCheck count s given)) ≡ false = rw check-is at e in
       fitted (passed fitting (limits 0 count 0) true Done (unless-passed refused first (recordsCheck count s given) steps .0) .lengths)
+
+-- ---- both halves of nothing
+
+pub nothing : Empty
+unfolding firstCheck secondCheck recordsCheck firstParticle flags numbers Refusals.firstOf firstHalf secondHalf changes gather run
+nothing =
+    record {
+      first-check = λ h dt modified. empty .stage (goodWidth h ∷ goodStep dt ∷ []) (codes (isFlag modified ∷ [])) h;
+      first-kept = λ h dt modified nodes s. refl;
+      second-check = refl;
+      second-kept = λ given s. refl;
+    }

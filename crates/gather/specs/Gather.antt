@@ -7,7 +7,7 @@ use lib.Ieee.{Float, nan}
 use lib.ListN.{length, getD}
 use Rattle.packing.specs.Ids.{dim2, region, stencilOf}
 use Rattle.numeric.specs.Bits.{none}
-use Rattle.laws.specs.Store.{Store, Holds}
+use Rattle.laws.specs.Store.{Store, store, Holds}
 use Rattle.laws.specs.Hits.{Hit, run, gather, changeAt, changes}
 use Rattle.cells.specs.Cells.{cellAssociatedToPoint, regionAssociatedToPoint}
 use Rattle.cells.specs.Stencil.{stencilCells, shiftAt, stepAt, dirToAssociatedGridNode}
@@ -15,8 +15,9 @@ use Rattle.cells.specs.declared.Found.{Found}
 use Rattle.cells.specs.declared.Found.the-variants.{At, Absent}
 use Rattle.grid.specs.Answers.{first}
 use Rattle.grid.specs.Nodes.{nodeForm, nodeAt, emptyNode, regionCells}
-use Rattle.grid.specs.Table.{lengths, limits, goodWidth, goodStep, codes, isFlag, flags, numbers}
+use Rattle.grid.specs.Table.{lengths, limits, goodWidth, goodStep, settings, codes, isFlag, flags, numbers}
 use Rattle.grid.specs.declared.Answer.{Answer}
+use Rattle.grid.specs.declared.Answer.the-variants.{Done}
 use Rattle.grid.specs.declared.Rule.the-variants.{Code, NotFinite}
 use Rattle.grid.specs.declared.grid_node.GridNode.{GridNode}
 use Rattle.particles.specs.Particles.{particleForm, particleAt, particles, positionOf}
@@ -198,3 +199,12 @@ pub record Laws (s : Store) (n : ℕ) : Type 0 where
   -- There are as many particles as before.
   pub first-held : (h dt : Float) (modified : ℕ) (ids : List ℕ) (nodes : Store) → Holds particleForm (firstHalf h dt modified ids nodes n s) n
   pub second-held : (given : Store) → Holds particleForm (secondHalf given n s) n
+
+-- ---- what is proved of empty lists
+
+pub record Empty : Type 0 where
+  -- With no regions and no particles the first half is refused for its settings and its own alone, the second for nothing; both leave what they were lent.
+  pub first-check : (h dt : Float) (modified : ℕ) → firstCheck h dt modified 0 [] [] 0 (store [] []) 0 0 ≡ first (settings (goodWidth h ∷ goodStep dt ∷ []) ∷ codes (isFlag modified ∷ []) ∷ [])
+  pub first-kept : (h dt : Float) (modified : ℕ) (nodes s : Store) → firstHalf h dt modified [] nodes 0 s ≡ s
+  pub second-check : secondCheck 0 (store [] []) (store [] []) ≡ Done
+  pub second-kept : (given s : Store) → secondHalf given 0 s ≡ s

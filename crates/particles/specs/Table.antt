@@ -9,7 +9,7 @@ use Prim.Native.Nat.{ℕ, _+_, _*_, _≤_, _<_}
 use lib.ListN.{length, getD}
 use lib.Dec.{eqb}
 use lib.Ieee.{Float, nan, lt}
-use Rattle.laws.specs.Store.{Store, Holds}
+use Rattle.laws.specs.Store.{Store, store, Holds}
 use Rattle.packing.specs.Ids.{dim2, region, stencilOf}
 use Rattle.numeric.specs.Bits.{one}
 use Rattle.cells.specs.Cells.{nearest, greatestCoordinate, inRange, cellAssociatedToPoint, regionAssociatedToPoint}
@@ -174,3 +174,9 @@ pub record OnAxes : Type 0 where
   pub number : (h x : Float) → goodWidth h ≡ true → finite x ≡ true → nearest h x ≡ nan → ⊥
   -- So a position is off the grid on an axis exactly where r is below 1 or above 65,535.
   pub off : (h x : Float) → goodWidth h ≡ true → finite x ≡ true → (onAxis h x ≡ false) ↔ ((lt (nearest h x) one ≡ true) ⊎ (lt greatestCoordinate (nearest h x) ≡ true))
+
+-- ---- what is proved of empty lists: "Empty lists are accepted"
+
+pub record Empty : Type 0 where
+  -- A stage of no regions and no particles is refused for its settings and its own alone.
+  pub stage : (good : List Bool) (own : Answer) (h : Float) → stageCheck good own h 0 [] [] 0 (store [] []) 0 0 ≡ first (settings good ∷ own ∷ [])

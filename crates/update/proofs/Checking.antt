@@ -1,5 +1,5 @@
 -- The check of the update in the steps in which the code makes it, and what it has shown where it refuses nothing. Assumes nothing.
-use mathlib.Core.Path.{_≡_, ap₂, _∙_}
+use mathlib.Core.Path.{_≡_, refl, ap₂, _∙_}
 use mathlib.Core.Bool.{Bool, true, false, _&&_, not, and-true}
 use mathlib.Core.List.{List}
 use Prim.Native.Nat.{ℕ, _+_, _*_, _≤_, _<_, _^_}
@@ -9,18 +9,20 @@ use lib.Ieee.{Float}
 use lib.ListN.{length}
 use borrow.Author.Tests.{eqb-true}
 use Rattle.laws.specs.Store.{Store, store, Holds}
+use Rattle.laws.specs.Hits.{run, gather}
+use Rattle.laws.specs.Refusals as Refusals
 use Rattle.laws.proofs.Refusals.{unless-passed}
 use Rattle.laws.proofs.Rows.{stretch}
 use Rattle.grid.specs.Answers.{refused, refuse, unless}
 use Rattle.grid.specs.Nodes.{nodeForm, regionCells}
-use Rattle.grid.specs.Table.{matches, nodeLengths, limits, goodWidth, goodStep, called}
+use Rattle.grid.specs.Table.{matches, nodeLengths, limits, goodWidth, goodStep, called, flags, numbers, regionIds}
 use Rattle.grid.specs.declared.Answer.the-variants.{Done}
 use Rattle.grid.specs.declared.Rule.the-variants.{Length, Setting, Code}
 use Rattle.grid.proofs.Answers.{refuse-passed, not-false}
 use Rattle.grid.proofs.Lengths.{and-split, regroup, nodes-held}
 use Rattle.grid.proofs.Steps.{called-then, passed}
 use Rattle.update.specs.Boundary.{handlingOf, known}
-use Rattle.update.specs.Update.{colliderFloats, projectionFloats, projectionWords, projectionLengths, given, ownCheck, updateCheck, Ready}
+use Rattle.update.specs.Update.{colliderFloats, projectionFloats, projectionWords, projectionLengths, updates, updated, given, ownCheck, updateCheck, Ready, Empty}
 
 module _ (h dt : Float) (code locks regions : ℕ) (ids : List ℕ) (count : ℕ) (colliders : List Float) (projections : Store) where
   -- whether all lengths match, as the code asks
@@ -84,3 +86,9 @@ pub still-ready : (ids : List ℕ) (count : ℕ) (colliders : List Float) (proje
     → Ready ids count colliders projections t
 still-ready ids count colliders projections s t ready held =
     record { colliders-long = ready .colliders-long; floats-long = ready .floats-long; words-long = ready .words-long; nodes-held = held }
+
+-- ---- an update of nothing
+
+pub nothing : Empty
+unfolding updateCheck given flags numbers regionIds Refusals.firstOf updated updates gather run
+nothing = record { check = λ h dt code locks. refl; kept = λ h dt code locks s. refl }

@@ -11,7 +11,7 @@ use lib.ListN.{length, getD}
 use Rattle.packing.specs.Ids.{dim2, cellOf}
 use Rattle.numeric.specs.Axes.{pairwise, axes, vector}
 use Rattle.numeric.specs.Bits.{none}
-use Rattle.laws.specs.Store.{Store, Holds}
+use Rattle.laws.specs.Store.{Store, store, Holds}
 use Rattle.laws.specs.Hits.{Hit, run, gather}
 use Rattle.cells.specs.Cells.{cellCenter}
 use Rattle.grid.specs.Answers.{first}
@@ -154,3 +154,10 @@ pub record Laws (h dt : Float) (code locks : ℕ) (ids : List ℕ) (count : ℕ)
       → Zero (nodeAt (updated h dt code locks ids count colliders projections s) (r * regionCells + c))
   -- There are as many nodes as before.
   pub held : Holds nodeForm (updated h dt code locks ids count colliders projections s) (length ids * regionCells)
+
+-- ---- what is proved of empty lists
+
+pub record Empty : Type 0 where
+  -- With no regions and no colliders an update is refused for its settings and its own alone, and leaves what it was lent.
+  pub check : (h dt : Float) (code locks : ℕ) → updateCheck h dt code locks 0 [] 0 [] (store [] []) 0 0 ≡ first (settings (goodWidth h ∷ goodStep dt ∷ []) ∷ ownCheck code locks ∷ [])
+  pub kept : (h dt : Float) (code locks : ℕ) (s : Store) → updated h dt code locks [] 0 [] (store [] []) s ≡ s
