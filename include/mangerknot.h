@@ -614,7 +614,8 @@ mk_least_length mk_min_dt(float total, uint32_t max_num_substeps);
  * Writes the answer to a whole listing to the front of out, and answers how many bytes it has. Where out is too short for all of it,
  * nothing is written and 0 is answered; no answer has 0 bytes, and none more than MK_LISTING_BYTES. Bytes of out behind the answer are as
  * they were, and no NUL is put there. text may have any bytes, NULs too, and need not end with one. It is the one function that wants much
- * of the stack, some 160,000 bytes; where a thread has less, the program ends at the stack's guard page, and no other memory is touched.
+ * of the stack: it takes some 161,300 bytes, so have 192 KiB left. Where a thread has less, the program ends at the stack's guard page, and
+ * no other memory is touched.
  *
  * A listing is lines of fields with single tabs between them, each ended by a line feed; floats are 8 upper case hex digits of their bits,
  * other numbers decimal, below 2^64, without leading zeros. One line `w` cell_width dt gravity_x gravity_y; then for each region `r` id

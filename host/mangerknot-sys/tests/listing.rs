@@ -8,6 +8,7 @@ use mangerknot_sys::mk_bench;
 use replay::replay;
 use samples::listing::{pieces, text};
 use std::ptr;
+use std::thread::Builder;
 
 /// More than any answer has.
 const ROOM: usize = 100_000;
@@ -42,6 +43,12 @@ fn listing_vectors() {
         _ => panic!("no such question: {:?}", question),
     });
     assert!(asked["l"] >= 1000);
+}
+
+/// The stack that the header asks for is enough, with 32 KiB for what a thread and this file take themselves.
+#[test]
+fn the_stack_of_the_header_is_enough() {
+    Builder::new().stack_size((192 + 32) * 1024).spawn(listing_vectors).unwrap().join().unwrap();
 }
 
 /// Nothing is behind a pointer with a count of 0, and NULL is as good as any.

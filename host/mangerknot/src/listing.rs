@@ -8,7 +8,7 @@ pub const MAX_REGIONS: usize = 64;
 pub const MAX_PARTICLES: usize = 256;
 
 /// Writes the answer to a whole listing to the front of `out`, and answers that part of it; none, with nothing written, where `out` is
-/// too short, which no `out` of [`LISTING_BYTES`] is. It wants some 160,000 bytes of the stack.
+/// too short, which no `out` of [`LISTING_BYTES`] is. It takes some 161,300 bytes of the stack: have 192 KiB left.
 ///
 /// A listing is lines of fields with single tabs between them, each ended by a line feed; floats are 8 upper case hex digits of their
 /// bits, other numbers decimal, below 2^64, without leading zeros. One line `w` cell width, dt, gravity's x and y; then for each region `r`
