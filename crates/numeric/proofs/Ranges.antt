@@ -3,10 +3,9 @@ use mathlib.Core.Path.{_≡_, refl, sym, ap, ap₂, _∙_}
 use mathlib.Core.Bool.{Bool, true, false, cond, _&&_, not, true≢false, false≢true}
 use mathlib.Core.Logic.{inl, inr}
 use Prim.Native.Nat.{ℕ, zero, suc, _+_, _-_, _*_, _/_, _%_, _^_, _<_, _≤_}
-use native.Mathlib.Nat.{mul-le-mul-right, mul-lt-mul-of-pos-right, le-of-mul-le-mul-right, mul-right-comm, mul-le-mul, le-refl, le-trans, le-of-eq, eq-or-lt-of-le, lt-irrefl, le-of-suc-le-suc}
+use native.Mathlib.Nat.{mul-le-mul-right, mul-lt-mul-of-pos-right, le-of-mul-le-mul-right, mul-right-comm, mul-le-mul, le-trans, le-of-eq, eq-or-lt-of-le, lt-irrefl, le-of-suc-le-suc}
 use native.Mathlib.Omega.{arith}
 use borrow.Author.Tests.{leb-true, leb-false, le-leb, lt-leb, eqb-true}
-use lib.IntN.{ℤ}
 use lib.Pow.{pow-pos, pow-mono}
 use lib.Dec.{T, leb, eqb, leb→le, nleb→lt, le→leb}
 use lib.Ieee.{Float, nan, inf, fin, binary32, up, down, round, fits, lt, eq, le, ofBits, ofFields, ofInt, inFloat}

@@ -3,12 +3,12 @@
 use mathlib.Core.Path.{_≡_, refl, sym, ap, ap₂, _∙_, subst}
 use mathlib.Core.List.{List, [], _∷_, map}
 use Prim.Native.Nat.{ℕ, _+_, _*_, _/_, _%_, _^_, _<_}
-use native.Mathlib.Nat.{mod-eq-of-lt, mod-mod, mod-lt}
+use native.Mathlib.Nat.{mod-eq-of-lt, mod-mod}
 use native.Mathlib.Omega.{arith}
 use lib.Bits.{bitAnd}
 use lib.ListN.{length, getD}
 use Rattle.packing.specs.Mask.{Mask, num, count, coord, place, bits, axisSum, coords, whole, packed, below, wrapped, sums}
-use Rattle.packing.specs.Ids.{dim2, dim3, packedId, sum, region, cellOf, packedShifts, stencilOf, number, fromFours, toFours, colour}
+use Rattle.packing.specs.Ids.{dim2, dim3, packedId, sum, region, cellOf, packedShifts, stencilOf, number, fromFours, toFours}
 use Rattle.packing.specs.Neighbours.{IsCell}
 use Rattle.packing.specs.Laws.{OfMask, OfSum, Laws, Plane}
 use Rattle.packing.proofs.Linear.{run, alike}

@@ -1,11 +1,10 @@
 -- What is seen in one pass: particles that no rule refuses, region by region, so that the check is done. Assumes nothing.
-use mathlib.Core.Path.{_≡_, refl, sym, ap, _∙_, subst}
-use mathlib.Core.Bool.{Bool, true, false, _&&_, not}
+use mathlib.Core.Path.{_≡_, refl, sym, ap, _∙_}
+use mathlib.Core.Bool.{Bool, true, false, not}
 use mathlib.Core.List.{List, [], _∷_}
 use mathlib.Core.Logic.{⊎-elim}
 use Prim.Native.Nat.{ℕ, zero, suc, _+_, _*_, _/_, _%_, _≤_, _<_}
 use native.Mathlib.Omega.{arith}
-use lib.Dec.{eqb}
 use lib.Ieee.{Float}
 use lib.ListN.{length, getD}
 use borrow.Author.Tests.{eq-eqb}
@@ -15,21 +14,19 @@ use Rattle.laws.proofs.Refusals as Refused
 use Rattle.laws.proofs.Rows.{lt-or-ge}
 use Rattle.packing.specs.Ids.{dim2, packedId, region, number, stencilOf}
 use Rattle.packing.proofs.Laws.{plane}
-use Rattle.numeric.specs.Round.{castU32}
-use Rattle.cells.specs.Cells.{nearest, oneOff, cellAssociatedToPoint, regionAssociatedToPoint}
+use Rattle.cells.specs.Cells.{cellAssociatedToPoint, regionAssociatedToPoint}
 use Rattle.cells.specs.Lookup.{lookup}
 use Rattle.cells.specs.Stencil.{stepAt}
 use Rattle.cells.specs.declared.Found.{Found}
 use Rattle.cells.specs.declared.Found.the-variants.{At, Absent}
-use Rattle.grid.specs.Answers.{refused, refuse, first, firstOf}
-use Rattle.grid.specs.Table.{all, regionIds, startOf, countOf, before, cover, Covers}
-use Rattle.grid.specs.declared.Answer.{Answer}
+use Rattle.grid.specs.Answers.{refused, refuse}
+use Rattle.grid.specs.Table.{regionIds, startOf, countOf, before, cover, Covers}
 use Rattle.grid.specs.declared.Answer.the-variants.{Done}
 use Rattle.grid.specs.declared.Rule.{Rule}
 use Rattle.grid.specs.declared.Rule.the-variants.{Length, Limit, Setting, Code, NotFinite, RegionIds, Cover, OffGrid, OutOfRegion, Unlisted}
 use Rattle.particles.specs.Particles.{particleAt, positionOf}
 use Rattle.particles.specs.Places.{ofRegion, nodePlace}
-use Rattle.particles.specs.Table.{badFlag, notFinite, offGrid, outOfRegion, isAt, listed, unlisted, judged, firstParticle, outOfRegions, placed, checked, Passes, AllPass}
+use Rattle.particles.specs.Table.{offGrid, outOfRegion, isAt, listed, unlisted, judged, firstParticle, outOfRegions, placed, checked, Passes, AllPass}
 use Rattle.particles.specs.Blocks.{IsBlock, cornerOf, AllThere, Stands, surrounded}
 use Rattle.particles.specs.declared.particle.Particle.{Particle}
 use Rattle.particles.proofs.Every.{all-of}

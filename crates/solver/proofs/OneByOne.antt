@@ -2,7 +2,7 @@
 use mathlib.Core.Path.{_≡_, refl, sym, ap, _∙_}
 use mathlib.Core.Bool.{Bool, true, false, cond}
 use mathlib.Core.List.{List, [], _∷_, _++_}
-use Prim.Native.Nat.{ℕ, zero, suc, _*_, _≤_, _<_}
+use Prim.Native.Nat.{ℕ, zero, suc, _*_, _≤_}
 use native.Mathlib.Omega.{arith}
 use lib.ListN.{length}
 use Rattle.laws.specs.Store.{Store, Holds}
@@ -11,7 +11,6 @@ use Rattle.grid.specs.Answers.{refused}
 use Rattle.grid.specs.Nodes.{nodeForm, regionCells}
 use Rattle.grid.specs.declared.Answer.{Answer}
 use Rattle.grid.specs.declared.Answer.the-variants.{Done, Refused}
-use Rattle.particles.specs.Table.{Ready}
 use Rattle.particles.proofs.Staging.{Staged, still-ready}
 use Rattle.scatter.specs.Hit.{changed}
 use Rattle.scatter.specs.Scatter.{regionScattered}

@@ -1,6 +1,5 @@
 -- `particles::inner::checks::check_lists` meets its contract.
 -- Assumes nothing.
-use mathlib.Core.Path.{_∙_}
 use borrow.Author.Needs.{needs}
 use Rattle.particles.proofs.Staging.{by-kind}
 use Rattle.particles.proofs.inner.checks.check_lists.Statement.{statement}

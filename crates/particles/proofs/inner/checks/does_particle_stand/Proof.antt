@@ -1,12 +1,11 @@
 -- `particles::inner::checks::does_particle_stand` meets its contract: what it has asked of the particle holds where it says yes.
 -- Assumes nothing.
-use mathlib.Core.Bool.{Bool, true, false, _||_, cond, true≢false}
-use mathlib.Core.Path.{_≡_, refl, sym, ap, _∙_}
-use Prim.Native.Nat.{ℕ, _-_, _/_, _<_}
+use mathlib.Core.Bool.{Bool, true, false, _||_, true≢false}
+use mathlib.Core.Path.{_≡_, refl, sym, _∙_}
+use Prim.Native.Nat.{ℕ, _-_, _<_}
 use native.Mathlib.Omega.{arith}
 use borrow.Author.Needs.{needs}
 use borrow.Author.Tests.{eqb-true, eqb-false}
-use lib.Dec.{eqb}
 use lib.Ieee.{Float}
 use Rattle.numeric.specs.Round.{castU32}
 use Rattle.cells.specs.Cells.{nearest, inRange, oneOff}
