@@ -48,7 +48,7 @@ unfolding secondChange finished
 second-keeps given p q =
     record { position = refl; stress = refl; mass = refl; volume0 = refl; crack = refl; threshold = refl; kinematicVelocity = refl; kinematic = refl; fluid = refl; static = refl }
 
-pub laws : (s : Store) (n : ℕ) → Holds particleForm s n → Laws s n
+pub laws : (s : Store) (n : ℕ) (held : Holds particleForm s n) → Laws s n held
 unfolding firstHalf secondHalf
 laws s n held =
     record {

@@ -188,7 +188,7 @@ pub record SecondKeeps (a b : Particle) : Type 0 where
   pub fluid : a .fluid ≡ b .fluid
   pub static : a .«is_static» ≡ b .«is_static»
 
-pub record Laws (s : Store) (n : ℕ) : Type 0 where
+pub record Laws (s : Store) (n : ℕ) (held : Holds particleForm s n) : Type 0 where
   -- Every particle is changed, once, from what it held before the call.
   pub first : (h dt : Float) (modified : ℕ) (ids : List ℕ) (nodes : Store) (p : ℕ) → p < n
       → particleAt (firstHalf h dt modified ids nodes n s) p ≡ firstChange h ids nodes dt modified (particleAt s p)

@@ -66,7 +66,7 @@ all-empty (suc m) n s k o h l =
     ∙ stretch (m * regionCells) regionCells (run nodes (regions m) s) n k (regions-hold m n s (omega arith) o) (omega arith) (omega arith)
     (λ q. all-empty m n s k o (omega arith) q)
 
-pub laws : (m : ℕ) (s : Store) → Holds nodeForm s (m * regionCells) → Laws m s
+pub laws : (m : ℕ) (s : Store) (held : Holds nodeForm s (m * regionCells)) → Laws m s held
 unfolding cleared
 laws m s o = record {
   each = λ k h. all-empty m (m * regionCells) s k o (omega arith) h;

@@ -34,9 +34,9 @@ clearedRegion place s = run nodes (gather (λ c. emptied (place + c)) regionCell
 unfoldable pub cleared : ℕ → Store → Store
 cleared regions s = run nodes (gather (λ r. gather (λ c. emptied (r * regionCells + c)) regionCells) regions) s
 
--- ---- what is proved of it
+-- ---- what is proved of it, where the store has the nodes of so many regions
 
-pub record Laws (regions : ℕ) (s : Store) : Type 0 where
+pub record Laws (regions : ℕ) (s : Store) (held : Holds nodeForm s (regions * regionCells)) : Type 0 where
   -- every node is empty, whatever it held, and there are as many as before
   pub each : (k : ℕ) → k < regions * regionCells → nodeAt (cleared regions s) k ≡ emptyNode
   pub holds : Holds nodeForm (cleared regions s) (regions * regionCells)

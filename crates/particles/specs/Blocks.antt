@@ -77,7 +77,9 @@ pub record Stands (h : Float) (x y : ℕ) (q : Particle) : Type 0 where
 abbrev pub surrounded : List ℕ → ℕ → Bool
 surrounded ids r = all isAt (reachOf ids r)
 
-pub record Laws (ids : List ℕ) (r : ℕ) (block : List ℕ) : Type 0 where
+-- ---- what is proved of a region's block
+
+pub record Laws (ids : List ℕ) (r : ℕ) (block : List ℕ) (is : IsBlock ids r block) : Type 0 where
   -- In the block of a particle's own region stand the places of its stencil, column by column.
   pub stencil : (h : Float) (q : Particle) → region (cellAssociatedToPoint dim2 h (positionOf q)) ≡ r → (i j : ℕ) → i < 3 → j < 3
       → placeAt block (cornerOf h q) (stepAt i) (stepAt j) ≡ nodePlace ids (getD (stencilOf dim2 (cellAssociatedToPoint dim2 h (positionOf q))) (i * 3 + j) 0)

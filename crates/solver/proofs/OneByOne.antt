@@ -21,7 +21,7 @@ use Rattle.solver.specs.Calls.{Call, Scatter, answer, made, left, after,
 use Rattle.solver.specs.Calls.Call.{scattering, scatteringRegion, scatteringInOrder}
 use Rattle.solver.specs.OneByOne.{oneByOne, Turns, Demand3}
 use Rattle.solver.proofs.Ordering.{same-bits}
-use Rattle.solver.proofs.Turning.{let-through, then-scatter, region-accepted, place}
+use Rattle.solver.proofs.Turning.{Turned, turned, turning, let-through, then-scatter, region-accepted, place}
 
 -- ---- lists of calls
 
@@ -104,14 +104,27 @@ module _ (ids order : List ℕ) (c : Scatter) (s : Store) (full : answer ids (sc
       ∙ same-bits order (c .h) (c .dt) (c .gravity) (c .regions) ids (c .ranges) (c .count) (c .particles) s full as-long in-turn
       ∙ rw full
 
-  in-one : (answer ids (scatteringInOrder order c) s ≡ Done) × (left ids (scatteringInOrder order c) s ≡ left ids (scattering c) s)
+-- ---- all of them in one call
+
+module _ (ids order : List ℕ) (c : Scatter) (s : Store) (one : answer ids (scatteringInOrder order c) s ≡ Done) where
+  the-order : Turned order (c .h) (c .dt) (c .gravity) (c .regions) ids (c .ranges) (c .count) (c .particles) (length (s .floats)) (length (s .words))
+  the-order = turned order (c .h) (c .dt) (c .gravity) (c .regions) ids (c .ranges) (c .count) (c .particles) (length (s .floats)) (length (s .words)) one
+
+  such : Turns ids order
+  such =
+      let counted = ready Done (c .h) (c .dt) (c .gravity) (c .regions) ids (c .ranges) (c .count) (c .particles) (s .floats) (s .words) (ap refused (the-order .accepted)) .counted in
+      let long = the-order .as-long ∙ sym counted in
+      record { as-long = long; in-turn = turning ids order (the-order .in-turn) long }
+
+  leaves : left ids (scatteringInOrder order c) s ≡ left ids (scattering c) s
   unfolding left
-  in-one = (ordered, rw (ordered, full))
+  leaves = rw (one, the-order .accepted)
 
 pub demand3 : Demand3
 demand3 =
     record {
       same-bits = λ ids order c calls s full t e. only-accepted ids calls s ∙ rw e (left-by-all ids order c s full t);
       each-accepted = λ ids order c s full t. whole ids order c s full t .each;
-      in-one = in-one;
+      in-one = λ ids order c s. (λ one. (the-order ids order c s one .accepted, such ids order c s one), λ (full, t). ordered ids order c s full t);
+      in-one-left = leaves;
     }

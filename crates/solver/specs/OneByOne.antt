@@ -2,6 +2,7 @@
 -- colour in any order, leaves from the same starting nodes exactly the bits that demand 2 defines for the full scatter". Definitions, and what is proved of them.
 -- Assumes nothing.
 use mathlib.Core.Path.{_≡_}
+use mathlib.Core.Logic.{_↔_}
 use mathlib.Core.List.{List, [], _∷_, _++_}
 use Prim.Native.Nat.{ℕ, zero, suc}
 use lib.ListN.{length}
@@ -33,6 +34,8 @@ pub record Demand3 : Type 0 where
   -- None of the regions' own calls is refused.
   pub each-accepted : (ids order : List ℕ) (c : Scatter) (s : Store)
       → answer ids (scattering c) s ≡ Done → Turns ids order → accepted ids (oneByOne c order (length order)) s ≡ oneByOne c order (length order)
-  -- The one call that makes them all in an order is accepted in just these, and leaves the same.
+  -- The one call that makes them all in an order is accepted exactly where the full scatter is and the order is such,
   pub in-one : (ids order : List ℕ) (c : Scatter) (s : Store)
-      → answer ids (scattering c) s ≡ Done → Turns ids order → (answer ids (scatteringInOrder order c) s ≡ Done) × (left ids (scatteringInOrder order c) s ≡ left ids (scattering c) s)
+      → (answer ids (scatteringInOrder order c) s ≡ Done) ↔ ((answer ids (scattering c) s ≡ Done) × Turns ids order)
+  -- and leaves what it leaves, by its contract; that this is what the regions' calls leave is the first of these.
+  pub in-one-left : (ids order : List ℕ) (c : Scatter) (s : Store) → answer ids (scatteringInOrder order c) s ≡ Done → left ids (scatteringInOrder order c) s ≡ left ids (scattering c) s

@@ -41,7 +41,7 @@ module _ (handling : BoundaryHandling) (h dt : Float) (colliders : List Float) (
       ∙ its-own r c
 
 pub laws : (h dt : Float) (code locks : ℕ) (ids : List ℕ) (count : ℕ) (colliders : List Float) (projections s : Store)
-    → Holds nodeForm s (length ids * regionCells) → Laws h dt code locks ids count colliders projections s
+    (nodes-held : Holds nodeForm s (length ids * regionCells)) → Laws h dt code locks ids count colliders projections s nodes-held
 unfolding updated along
 laws h dt code locks ids count colliders projections s held =
     let n = length ids * regionCells in

@@ -136,7 +136,7 @@ pub record Ready (ids : List ℕ) (count : ℕ) (colliders : List Float) (projec
   pub words-long : length (projections .words) ≡ length ids * count * (regionCells * projectionWords)
   pub nodes-held : Holds nodeForm s (length ids * regionCells)
 
--- ---- what is proved of it, whatever it is given
+-- ---- what is proved of it, where the store has the nodes of the listed regions, whatever else it is given
 
 -- a node of zero mass, momentum and velocity
 pub record Zero (n : GridNode) : Type 0 where
@@ -144,7 +144,7 @@ pub record Zero (n : GridNode) : Type 0 where
   pub momentum : axes (n .momentum) ≡ none ∷ none ∷ []
   pub velocity : axes (n .velocity) ≡ none ∷ none ∷ []
 
-pub record Laws (h dt : Float) (code locks : ℕ) (ids : List ℕ) (count : ℕ) (colliders : List Float) (projections s : Store) : Type 0 where
+pub record Laws (h dt : Float) (code locks : ℕ) (ids : List ℕ) (count : ℕ) (colliders : List Float) (projections s : Store) (nodes-held : Holds nodeForm s (length ids * regionCells)) : Type 0 where
   -- Every node of every region is updated, once, from what it held before the call.
   pub each : (r c : ℕ) → r < length ids → c < regionCells
       → nodeAt (updated h dt code locks ids count colliders projections s) (r * regionCells + c)

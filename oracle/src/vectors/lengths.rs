@@ -139,7 +139,7 @@ impl Steps {
         self.sheet.row("m", vec![word(total.to_bits()), decimal(max_num_substeps)], least_fields(&answer));
     }
 
-    /// The cases that documents 01 and READINGS name, one by one.
+    /// The cases that document 01 and docs/DECISIONS.md name, one by one.
     fn by_hand(&mut self) {
         for (total, count, dts) in HAND {
             self.ask(&step(*total, *count, dts));
@@ -451,7 +451,7 @@ mod tests {
         }
     }
 
-    /// Documents 01 and READINGS on lengths once more, with one thing wrong about them.
+    /// Document 01 and docs/DECISIONS.md on lengths once more, with one thing wrong about them.
     fn by_hand(step: &Step, wrong: &str) -> Result<Taken, Refusal> {
         let Step { total, max_substep_dt, max_num_substeps, stop_after_one_substep, proposals, dts } = step;
         let dts: Vec<f32> = dts.iter().map(|dt| f32::from_bits(*dt)).collect();
@@ -590,7 +590,7 @@ mod tests {
         "taken off in f64",
     ];
 
-    /// What the Rust answers is what documents 01 and READINGS say, and every wrong rule is told from it by some questions.
+    /// What the Rust answers is what document 01 and docs/DECISIONS.md say, and every wrong rule is told from it by some questions.
     #[test]
     fn the_rust_is_document_01s_lengths_and_no_other() {
         let all = steps(&make());
