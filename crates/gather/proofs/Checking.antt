@@ -78,7 +78,7 @@ unfolding firstCheck secondCheck recordsCheck firstParticle flags numbers Refusa
 nothing =
     record {
       first-check = λ h dt modified. empty .stage (goodWidth h ∷ goodStep dt ∷ []) (codes (isFlag modified ∷ [])) h;
-      first-kept = λ h dt modified nodes s. refl;
+      first-kept = λ h dt modified ids nodes s. refl;
       second-check = refl;
       second-kept = λ given s. refl;
     }

@@ -27,11 +27,6 @@ pub is-some : (k : ℕ) → isAt (foundAt k) ≡ true → 0 < k
 is-some zero e = absurd (false≢true e)
 is-some (suc k) e = omega arith
 
--- and it stands for the place before it
-pub found-at : (k : ℕ) → 0 < k → foundAt k ≡ At (k - 1)
-found-at zero l = absurd (omega arith)
-found-at (suc k) l = ap At (omega arith)
-
 module _ (h : Float) (ids : List ℕ) (nodes : Store) (r : ℕ) (block : List ℕ) (is : IsBlock ids r block) (q : Particle) (own : region (cellAssociatedToPoint dim2 h (positionOf q)) ≡ r) where
   abbrev stencil : List ℕ
   stencil = stencilOf dim2 (cellAssociatedToPoint dim2 h (positionOf q))

@@ -203,8 +203,8 @@ pub record Laws (s : Store) (n : ℕ) (held : Holds particleForm s n) : Type 0 w
 -- ---- what is proved of empty lists
 
 pub record Empty : Type 0 where
-  -- With no regions and no particles the first half is refused for its settings and its own alone, the second for nothing; both leave what they were lent.
+  -- With no regions and no particles the first half is refused for its settings and its own alone, the second for nothing; with no particles both leave what they were lent.
   pub first-check : (h dt : Float) (modified : ℕ) → firstCheck h dt modified 0 [] [] 0 (store [] []) 0 0 ≡ first (settings (goodWidth h ∷ goodStep dt ∷ []) ∷ codes (isFlag modified ∷ []) ∷ [])
-  pub first-kept : (h dt : Float) (modified : ℕ) (nodes s : Store) → firstHalf h dt modified [] nodes 0 s ≡ s
+  pub first-kept : (h dt : Float) (modified : ℕ) (ids : List ℕ) (nodes s : Store) → firstHalf h dt modified ids nodes 0 s ≡ s
   pub second-check : secondCheck 0 (store [] []) (store [] []) ≡ Done
   pub second-kept : (given s : Store) → secondHalf given 0 s ≡ s

@@ -58,8 +58,8 @@ fn node_at(number: usize, nf: &[f32], nw: &[u32]) -> GridNode
     read_node(nf, nw, place_of(number))
 }
 
-// The place that a number of a block stands for. There is one, as the check has shown, so that no call comes to the else arm. What that answers is what the number of a place
-// would, or each of the nine nodes would cost a branch.
+// The place that a number of a block stands for. There is one, as the check has shown, so that no call comes to the else arm. That answers by the expression that `found_at` has for
+// a place: the arms are then one, and none of the nine nodes costs a branch.
 fn place_of(number: usize) -> usize
     requires { ⌜ 0 < number ⌝ }
     ensures { λ r. ⌜ foundAt number ≡ At r ⌝ }

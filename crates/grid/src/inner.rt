@@ -117,9 +117,9 @@ pub fn holds_nodes(regions: usize, nf: usize, nw: usize) -> bool
 pub fn check_limits(regions: usize, particles: usize, colliders: usize) -> Answer
     ensures { λ a. ⌜ a ≡ limits regions particles colliders ⌝ }
 {
-    let limited = (regions <= MAX_REGIONS)
+    let is_within = (regions <= MAX_REGIONS)
         & ((particles <= MAX_PARTICLES) & (colliders <= MAX_COLLIDERS));
-    refuse(!limited, Rule::Limit, 0)
+    refuse(!is_within, Rule::Limit, 0)
 }
 
 pub fn is_finite(x: f32) -> bool

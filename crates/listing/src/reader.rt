@@ -78,7 +78,7 @@ pub fn feed(
     q
 }
 
-// The text cannot be read on: nor can then the line that it stops in.
+// A line cannot be read, and so the text cannot: what is kept of it, and the line's index, stay.
 fn broken(reader: Reader) -> Reader
     ensures { λ q. ⌜ ((m : Memory) → record { reader = q; memory = m } ≡ spoiled (record { reader = reader; memory = m })) ⌝ }
 {

@@ -32,7 +32,7 @@ fn halved_near(n: u64) -> u64
     if r < n - r * r { r + 1 } else { r }
 }
 
-// The digits of the root of the f32 with the pattern b, one off at most, as those of a pattern: nothing rests on this guess but the time that it saves.
+// The digits of the root of the normal f32 with the pattern b, one off at most, as those of a pattern: nothing rests on this guess but the time that it saves.
 fn guessed_root(b: u32) -> u32 {
     // the number times a power of 4, from 1/2 to 2: its root has the same digits
     let c: u32 = b % 0x100_0000 + 0x3f00_0000;

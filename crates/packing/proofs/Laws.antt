@@ -135,5 +135,5 @@ plane =
       regionPacked = region-packed2;
       numberPacked = number-packed2;
       stencil = stencil2;
-      reach = reach2;
+      moves = reach2;
     }

@@ -72,7 +72,7 @@ pub record Laws (d : Dim) : Type 0 where
   -- 8. What lies at a shift from a region's first cell is in the region moved by the shift's own, and has the shift's own number there.
   pub moved : (r shift : ℕ) → region (sum d (region r) shift) ≡ sum d (region r) (region shift)
   pub numbered : (r shift : ℕ) → number d (sum d (region r) shift) ≡ number d shift
-  -- 9. There are two colours for each axis, and four cells of a region along each; a stencil has a cell for each shift. Whatever stray bits an id has.
+  -- 9. A colour is below 2 to the number of axes, a number in a region below 4 to it; there is a packed shift, and a stencil's cell, for each shift. Whatever stray bits an id has.
   pub colours : (r : ℕ) → colour d r < 2 ^ length (d .sumAxes)
   pub numbers : (i : ℕ) → number d i < 4 ^ length (d .sumAxes)
   pub shifted : length (packedShifts d) ≡ length (d .shifts)
@@ -93,4 +93,4 @@ pub record Plane : Type 0 where
   pub stencil : {i : ℕ} → IsCell dim2 i → (k x y : ℕ) → k < 9 → getD (dim2 .shifts) k [] ≡ x ∷ y ∷ []
       → getD (stencilOf dim2 i) k 0 ≡ sum dim2 (region i) (packedId dim2 ((number dim2 i % 4 + x) ∷ (number dim2 i / 4 + y) ∷ []))
   -- 14. The ids by which a region is moved: not at all, along x, along y, and along both.
-  pub reach : (packedId dim2 (0 ∷ 0 ∷ []) ≡ 0) × (packedId dim2 (4 ∷ 0 ∷ []) ≡ 4096) × (packedId dim2 (0 ∷ 4 ∷ []) ≡ 8192) × (packedId dim2 (4 ∷ 4 ∷ []) ≡ 12288)
+  pub moves : (packedId dim2 (0 ∷ 0 ∷ []) ≡ 0) × (packedId dim2 (4 ∷ 0 ∷ []) ≡ 4096) × (packedId dim2 (0 ∷ 4 ∷ []) ≡ 8192) × (packedId dim2 (4 ∷ 4 ∷ []) ≡ 12288)

@@ -178,5 +178,9 @@ pub record OnAxes : Type 0 where
 -- ---- what is proved of empty lists: "Empty lists are accepted"
 
 pub record Empty : Type 0 where
-  -- A stage of no regions and no particles is refused for its settings and its own alone.
+  -- A stage of no particles is refused for its lengths, its counts, its settings, its own, and its regions alone.
+  pub particles : (good : List Bool) (own : Answer) (h : Float) (regions : ℕ) (ids ranges : List ℕ) (s : Store) (nf nw : ℕ)
+      → stageCheck good own h regions ids ranges 0 s nf nw
+      ≡ first (lengths (stageLengths regions ids ranges 0 s nf nw) ∷ limits regions 0 0 ∷ settings good ∷ own ∷ regionIds ids ∷ cover (length ids) ranges 0 ∷ [])
+  -- One of no regions either is refused for its settings and its own alone.
   pub stage : (good : List Bool) (own : Answer) (h : Float) → stageCheck good own h 0 [] [] 0 (store [] []) 0 0 ≡ first (settings good ∷ own ∷ [])

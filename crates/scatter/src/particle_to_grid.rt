@@ -308,8 +308,17 @@ fn hit_column(
     let mut j = 0;
     while j < STENCIL_SIDE {
         let y = step(j);
-        let place = block[corner + (x as usize + BLOCK_SIDE * y as usize)];
-        hit(cell_width, place, dir, load, w, Cell { x: x, y: y }, nf, nw);
+        let number = block[corner + (x as usize + BLOCK_SIDE * y as usize)];
+        hit(
+            cell_width,
+            number,
+            dir,
+            load,
+            w,
+            Cell { x: x, y: y },
+            nf,
+            nw,
+        );
         j += 1;
     }
 }
@@ -317,7 +326,7 @@ fn hit_column(
 // The node at a place, as a block numbers it. Its region is listed, as the check has shown; of another there is none, and nothing is hit.
 fn hit(
     cell_width: f32,
-    place: usize,
+    number: usize,
     dir: Vector,
     load: Load,
     w: [[f32; 3]; 2],
@@ -325,10 +334,10 @@ fn hit(
     nf: &mut [f32],
     nw: &mut [u32],
 )
-    requires { ⌜ (w ≡ precomputeWeights (axes dir) «cell_width») × (shift .x < 3) × (shift .y < 3) × (place ≤ length (now nw)) × Holds nodeForm (store (now nf) (now nw)) (length (now nw)) ⌝ }
-    ensures { λ _. ⌜ store (now (nf .exit)) (now (nw .exit)) ≡ run nodes (onNode (foundAt place) (changedBy «cell_width» (axes dir) load (shift .x ∷ shift .y ∷ []))) (store (now (nf .entry)) (now (nw .entry))) ⌝ }
+    requires { ⌜ (w ≡ precomputeWeights (axes dir) «cell_width») × (shift .x < 3) × (shift .y < 3) × (number ≤ length (now nw)) × Holds nodeForm (store (now nf) (now nw)) (length (now nw)) ⌝ }
+    ensures { λ _. ⌜ store (now (nf .exit)) (now (nw .exit)) ≡ run nodes (onNode (foundAt number) (changedBy «cell_width» (axes dir) load (shift .x ∷ shift .y ∷ []))) (store (now (nf .entry)) (now (nw .entry))) ⌝ }
 {
-    let Found::At(k) = found_at(place) else {
+    let Found::At(k) = found_at(number) else {
         return;
     };
     let n = read_node(nf, nw, k);

@@ -61,7 +61,7 @@ pub fn scatter_in_order(
     Answer::Done
 }
 
-// What the call is refused for. The order is looked at once 1 and 2 are decided, as it takes the square of its length.
+// What the call is refused for. The order's entries are looked at once 1 to 3 are decided, as that takes the square of its length.
 fn check_in_order(
     order: &[u64],
     cell_width: f32,

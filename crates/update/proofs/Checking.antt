@@ -1,7 +1,7 @@
 -- The check of the update in the steps in which the code makes it, and what it has shown where it refuses nothing. Assumes nothing.
-use mathlib.Core.Path.{_≡_, refl, ap₂, _∙_}
+use mathlib.Core.Path.{_≡_, refl, ap, ap₂, _∙_}
 use mathlib.Core.Bool.{Bool, true, false, _&&_, not, and-true}
-use mathlib.Core.List.{List}
+use mathlib.Core.List.{List, [], _∷_, _++_}
 use Prim.Native.Nat.{ℕ, _+_, _*_, _≤_, _<_, _^_}
 use native.Mathlib.Omega.{arith}
 use lib.Dec.{eqb, ltb}
@@ -15,14 +15,15 @@ use Rattle.laws.proofs.Refusals.{unless-passed}
 use Rattle.laws.proofs.Rows.{stretch}
 use Rattle.grid.specs.Answers.{refused, refuse, unless}
 use Rattle.grid.specs.Nodes.{nodeForm, regionCells}
-use Rattle.grid.specs.Table.{matches, nodeLengths, limits, goodWidth, goodStep, called, flags, numbers, regionIds}
+use Rattle.grid.specs.Table.{matches, lengths, nodeLengths, limits, goodWidth, goodStep, settings, called, flags, numbers, regionIds}
+use Rattle.grid.specs.declared.Answer.{Answer}
 use Rattle.grid.specs.declared.Answer.the-variants.{Done}
 use Rattle.grid.specs.declared.Rule.the-variants.{Length, Setting, Code}
-use Rattle.grid.proofs.Answers.{refuse-passed, not-false}
+use Rattle.grid.proofs.Answers.{unless-end, refuse-passed, not-false}
 use Rattle.grid.proofs.Lengths.{and-split, regroup, nodes-held}
 use Rattle.grid.proofs.Steps.{called-then, passed}
 use Rattle.update.specs.Boundary.{handlingOf, known}
-use Rattle.update.specs.Update.{colliderFloats, projectionFloats, projectionWords, projectionLengths, updates, updated, given, ownCheck, updateCheck, Ready, Empty}
+use Rattle.update.specs.Update.{colliderFloats, projectionFloats, projectionWords, projectionLengths, afterColliders, updatedNode, updates, updated, given, ownCheck, updateCheck, Ready, Empty}
 
 module _ (h dt : Float) (code locks regions : ℕ) (ids : List ℕ) (count : ℕ) (colliders : List Float) (projections : Store) where
   -- whether all lengths match, as the code asks
@@ -90,5 +91,14 @@ still-ready ids count colliders projections s t ready held =
 -- ---- an update of nothing
 
 pub nothing : Empty
-unfolding updateCheck given flags numbers regionIds Refusals.firstOf updated updates gather run
-nothing = record { check = λ h dt code locks. refl; kept = λ h dt code locks s. refl }
+unfolding updateCheck given flags numbers regionIds Refusals.firstOf updated updates updatedNode afterColliders gather run
+nothing =
+    record {
+      colliders = λ h dt code locks regions ids nf nw.
+          ap (λ (a : Answer). unless (lengths ((length ids, regions) ∷ (0, 0) ∷ projectionLengths regions 0 0 0 ++ nodeLengths regions nf nw))
+          (unless (limits regions 0 0) (unless (settings (goodWidth h ∷ goodStep dt ∷ [])) (unless (ownCheck code locks) a))))
+          (unless-end _);
+      check = λ h dt code locks. refl;
+      locks-alone = λ handling h dt colliders projections locks ids r c n. refl;
+      kept = λ h dt code locks count colliders projections s. refl;
+    }

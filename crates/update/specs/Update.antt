@@ -158,6 +158,19 @@ pub record Laws (h dt : Float) (code locks : ℕ) (ids : List ℕ) (count : ℕ)
 -- ---- what is proved of empty lists
 
 pub record Empty : Type 0 where
-  -- With no regions and no colliders an update is refused for its settings and its own alone, and leaves what it was lent.
+  -- With no colliders an update is refused for its lengths, its counts, its settings, its own and its ids alone; with no regions either, for its settings and its own.
+  pub colliders : (h dt : Float) (code locks regions : ℕ) (ids : List ℕ) (nf nw : ℕ)
+      → updateCheck h dt code locks regions ids 0 [] (store [] []) nf nw
+      ≡ first (
+      lengths ((length ids, regions) ∷ (0, 0) ∷ projectionLengths regions 0 0 0 ++ nodeLengths regions nf nw)
+      ∷ limits regions 0 0
+      ∷ settings (goodWidth h ∷ goodStep dt ∷ [])
+      ∷ ownCheck code locks
+      ∷ regionIds ids
+      ∷ []
+      )
   pub check : (h dt : Float) (code locks : ℕ) → updateCheck h dt code locks 0 [] 0 [] (store [] []) 0 0 ≡ first (settings (goodWidth h ∷ goodStep dt ∷ []) ∷ ownCheck code locks ∷ [])
-  pub kept : (h dt : Float) (code locks : ℕ) (s : Store) → updated h dt code locks [] 0 [] (store [] []) s ≡ s
+  -- With no colliders a node is locked alone; with no regions the update leaves what it was lent, whatever else it is given.
+  pub locks-alone : (handling : BoundaryHandling) (h dt : Float) (colliders : List Float) (projections : Store) (locks : ℕ) (ids : List ℕ) (r c : ℕ) (n : GridNode)
+      → updatedNode handling h dt colliders projections locks ids 0 r c n ≡ lockedNode locks n
+  pub kept : (h dt : Float) (code locks count : ℕ) (colliders : List Float) (projections s : Store) → updated h dt code locks [] count colliders projections s ≡ s

@@ -12,7 +12,7 @@ use Rattle.numeric.specs.Bits.{none}
 use Rattle.numeric.specs.Kernel.{precomputeWeights}
 use Rattle.laws.specs.Store.{store}
 use Rattle.particles.specs.Blocks.{cornerIn, cornerOf}
-use Rattle.particles.proofs.Placing.{on-axes}
+use Rattle.particles.proofs.Placing.{in-range}
 use Rattle.gather.specs.Gather.{overColumns, Serves}
 use Rattle.fluids.specs.Fluids.{weighing, gatheredIn}
 use Rattle.fluids.proofs.fluids_volume.gather_mass.Statement.{statement}
@@ -25,7 +25,7 @@ abbrev μ-loop : tie.MeasureT-loop
 μ-loop h block nf nw w corner new-mass₀ i₀ new-mass i = 3 - i
 
 nearest-requires : tie.Need-nearest-requires Inv-loop μ-loop
-nearest-requires c κs = let a = c .before .before in on-axes (a .args .cell-width) (a .args .q) (a .pre .0)
+nearest-requires c κs = let a = c .before .before in in-range (a .args .cell-width) (a .args .q) (a .pre .0)
 
 dir-requires : tie.Need-dir-to-associated-grid-node-requires Inv-loop μ-loop
 dir-requires c κs = c .nearest .ensures .0

@@ -11,7 +11,7 @@ use denote.Ref.{now}
 use Rattle.numeric.specs.Axes.{axes}
 use Rattle.laws.specs.Store.{store}
 use Rattle.particles.specs.Blocks.{cornerIn, cornerOf}
-use Rattle.particles.proofs.Placing.{on-axes}
+use Rattle.particles.proofs.Placing.{in-range}
 use Rattle.gather.specs.Transfer.{nothing, takenBy}
 use Rattle.gather.specs.Gather.{overColumns, adding, takenIn, Serves}
 use Rattle.gather.proofs.grid_to_particle.take.Statement.{statement}
@@ -24,7 +24,7 @@ abbrev μ-loop : tie.MeasureT-loop
 μ-loop h block nf nw dir w corner t₀ i₀ t i = 3 - i
 
 nearest-requires : tie.Need-nearest-requires Inv-loop μ-loop
-nearest-requires c κs = let a = c .before .before in on-axes (a .args .cell-width) (a .args .q) (a .pre .0)
+nearest-requires c κs = let a = c .before .before in in-range (a .args .cell-width) (a .args .q) (a .pre .0)
 
 dir-requires : tie.Need-dir-to-associated-grid-node-requires Inv-loop μ-loop
 dir-requires c κs = c .nearest .ensures .0

@@ -15,7 +15,7 @@ use Rattle.laws.proofs.Hits.{run-none, run-more}
 use Rattle.cells.specs.Stencil.{stepAt}
 use Rattle.grid.specs.Nodes.{nodeForm, nodes}
 use Rattle.particles.specs.Blocks.{cornerIn, cornerOf}
-use Rattle.particles.proofs.Placing.{on-axes}
+use Rattle.particles.proofs.Placing.{in-range}
 use Rattle.scatter.specs.Hit.{changedFor, changedBy}
 use Rattle.scatter.specs.Scatter.{columnHits, blockHits}
 use Rattle.scatter.proofs.Hitting.{among}
@@ -31,7 +31,7 @@ abbrev μ-loop : tie.MeasureT-loop
 μ-loop h block nf₀ nw₀ dir load w corner i₀ nf nw i = 3 - i
 
 nearest-requires : tie.Need-nearest-requires Inv-loop μ-loop
-nearest-requires c κs = let a = c .before .before in on-axes (a .args .cell-width) (a .args .q) (a .pre .0)
+nearest-requires c κs = let a = c .before .before in in-range (a .args .cell-width) (a .args .q) (a .pre .0)
 
 dir-requires : tie.Need-dir-to-associated-grid-node-requires Inv-loop μ-loop
 dir-requires c κs = c .nearest .ensures .0
