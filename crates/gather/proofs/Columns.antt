@@ -2,7 +2,7 @@
 use mathlib.Core.Path.{_≡_, refl, sym, ap, ap₂, _∙_}
 use mathlib.Core.Bool.{true, false≢true}
 use mathlib.Core.List.{List, [], _∷_}
-use Prim.Native.Nat.{ℕ, zero, suc, _+_, _-_, _*_, _≤_, _<_}
+use Prim.Native.Nat.{ℕ, zero, suc, _+_, _*_, _≤_, _<_}
 use native.Mathlib.Omega.{arith}
 use lib.Ieee.{Float}
 use lib.ListN.{getD}
@@ -11,7 +11,6 @@ use Rattle.laws.specs.Store.{Store}
 use Rattle.cells.specs.Cells.{cellAssociatedToPoint}
 use Rattle.cells.specs.Stencil.{shiftAt, stepAt, dirToAssociatedGridNode}
 use Rattle.cells.specs.declared.Found.{Found}
-use Rattle.cells.specs.declared.Found.the-variants.{At}
 use Rattle.cells.proofs.Steps.{by-steps}
 use Rattle.grid.specs.declared.grid_node.GridNode.{GridNode}
 use Rattle.particles.specs.Blocks.{foundAt, IsBlock, cornerOf, placeAt}
