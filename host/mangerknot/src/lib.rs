@@ -2,8 +2,10 @@
 //! beside asking it, that is sorting particles into regions and putting refusals into words, is tested.
 //!
 //! There are two ways in. [`Sample`] owns particles, regions and nodes, and its types keep the stages of a substep in order. The modules
-//! have every function of the archive on slices of your own, named as the archive's source files; `lists` has the small structs that
-//! these slices go over in, and says how lengths and counts belong together. [`Refused`] is what both answer where a rule is broken.
+//! have every function of the archive on slices of your own. [`ids`], [`floats`], [`sp_grid`], [`particle_to_grid`], [`grid_update`],
+//! [`grid_to_particle`], [`fluids_volume`] and [`mls_solver`] are named as the archive's source files; [`listing`] is its `bench`, a
+//! whole listing as a text. [`lists`] has the small structs that these slices go over in, and says how lengths and counts belong
+//! together; [`records`] has what they hold, with named fields. [`Refused`] is what both answer where a rule is broken.
 //!
 //! A whole substep of document 01's one particle, of mass 64 at (1, 1), in cells of width 1:
 //!
