@@ -1,6 +1,7 @@
 -- A finite position over an accepted width is a number, and of two numbers one is below the other or not. Assumes nothing.
 use mathlib.Core.Path.{_≡_, refl, sym, ap, _∙_}
 use mathlib.Core.Bool.{Bool, true, false, _&&_, _||_, not, cond, true≢false}
+use mathlib.Core.List.{List, [], _∷_}
 use mathlib.Core.Logic.{_⊎_, inl, inr, _↔_, ⊎-elim}
 use Prim.Native.Nat.{ℕ, zero, suc, _+_, _*_, _-_, _/_, _%_, _^_, _<_, _≤_, compare}
 use native.Mathlib.Nat.{zero-mul, eq-or-lt-of-le}
@@ -14,10 +15,11 @@ use Rattle.laws.proofs.Rows.{lt-or-ge}
 use Rattle.numeric.specs.Bits.{_⊘_, one}
 use Rattle.numeric.specs.Round.{roundAway}
 use Rattle.cells.specs.Cells.{nearest, greatestCoordinate, inRange}
-use Rattle.grid.specs.Table.{finite, leastWidth, greatestWidth, goodWidth}
-use Rattle.grid.proofs.Answers.{not-true}
+use Rattle.grid.specs.Table.{all, finite, leastWidth, greatestWidth, goodWidth}
+use Rattle.grid.proofs.Answers.{not-false, not-true}
 use Rattle.grid.proofs.Lengths.{and-split}
-use Rattle.particles.specs.Table.{onAxis, OnAxes}
+use Rattle.particles.specs.Particles.{positionOf}
+use Rattle.particles.specs.Table.{notFinite, onAxis, offGrid, Beyond, BeyondOne, OnAxes}
 
 -- ---- what is rounded is a number
 
@@ -133,6 +135,28 @@ ends r n =
     either true b = (λ e. inr (ap not e), ⊎-elim (λ (e : false ≡ true). absurd (true≢false (sym e))) (λ (e : not b ≡ true). not-true b e))
     either false b = (λ e. inl refl, λ e. refl)
 
+off : (h x : Float) → goodWidth h ≡ true → finite x ≡ true → (onAxis h x ≡ false) ↔ Beyond h x
+unfolding onAxis
+off h x g f = ends (nearest h x) (number h x g f)
+
+off-one : (h : Float) (xs : List Float) → goodWidth h ≡ true → all finite xs ≡ true → (not (all (onAxis h) xs) ≡ true) ↔ BeyondOne h xs
+off-one h [] g f = (λ e. true≢false (sym e), λ e. absurd e)
+off-one h (x ∷ xs) g f =
+    let split = and-split (finite x) (all finite xs) f in
+    either (onAxis h x) (all (onAxis h) xs) (off h x g (split .0)) (off-one h xs g (split .1))
+  where
+    either : {A B : Type 0} (a b : Bool) → (a ≡ false) ↔ A → (not b ≡ true) ↔ B → (not (a && b) ≡ true) ↔ (A ⊎ B)
+    either true b p q = (λ e. inr (q .0 e), ⊎-elim (λ s. absurd (true≢false (p .1 s))) (q .1))
+    either false b p q = (λ e. inl (p .0 refl), λ e. refl)
+
 pub on-axes : OnAxes
-unfolding onAxis isNan
-on-axes = record { number = λ h x g f e. true≢false (sym (ap isNan e) ∙ number h x g f); off = λ h x g f. ends (nearest h x) (number h x g f) }
+unfolding notFinite offGrid isNan
+on-axes =
+    record {
+      number = λ h x g f e. true≢false (sym (ap isNan e) ∙ number h x g f);
+      off = off;
+      particle = λ h q g f.
+          let x = and-split (finite (q .position .x)) _ (not-false _ f) in
+          let y = and-split (finite (q .position .y)) _ (x .1) in
+          off-one h (positionOf q) g (rw (x .0, y .0));
+    }

@@ -169,11 +169,22 @@ AllPass h ids r s p n = (k : ℕ) → p ≤ k → k < p + n → Passes h ids r (
 
 -- ---- what is proved of number 8
 
+-- r is below 1 or above 65,535
+abbrev pub Beyond : Float → Float → Type 0
+Beyond h x = (lt (nearest h x) one ≡ true) ⊎ (lt greatestCoordinate (nearest h x) ≡ true)
+
+-- on one of the axes
+abbrev pub BeyondOne : Float → List Float → Type 0
+BeyondOne h [] = ⊥
+BeyondOne h (x ∷ xs) = Beyond h x ⊎ BeyondOne h xs
+
 pub record OnAxes : Type 0 where
   -- A finite position over a width that 3 lets through is no NaN, and neither is what it is rounded to.
   pub number : (h x : Float) → goodWidth h ≡ true → finite x ≡ true → nearest h x ≡ nan → ⊥
   -- So a position is off the grid on an axis exactly where r is below 1 or above 65,535.
-  pub off : (h x : Float) → goodWidth h ≡ true → finite x ≡ true → (onAxis h x ≡ false) ↔ ((lt (nearest h x) one ≡ true) ⊎ (lt greatestCoordinate (nearest h x) ≡ true))
+  pub off : (h x : Float) → goodWidth h ≡ true → finite x ≡ true → (onAxis h x ≡ false) ↔ Beyond h x
+  -- And a particle that 5 lets through is off the grid exactly where it is so on an axis.
+  pub particle : (h : Float) (q : Particle) → goodWidth h ≡ true → notFinite q ≡ false → (offGrid h q ≡ true) ↔ BeyondOne h (positionOf q)
 
 -- ---- what is proved of empty lists: "Empty lists are accepted"
 

@@ -159,6 +159,7 @@ fn check_records(
     if is_accepted(cell_width, ids, ranges, pf, pw, particles) {
         return check_given(cf, jf, jw);
     }
+    // The longer looks have names, so that the order below can be read line by line.
     let codes = first_particle(Rule::Code, cell_width, ids, 0, pf, pw, 0, particles);
     let not_finite = first_particle(Rule::NotFinite, cell_width, ids, 0, pf, pw, 0, particles);
     let frictions = check_numbers(cf, COLLIDER_FLOATS);
