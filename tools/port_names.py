@@ -73,7 +73,7 @@ def snake(name):
 
 def texts(root, *endings):
     for path in sorted((root / "crates").rglob("*")):
-        if "out" not in path.parts and path.suffix in endings and path.is_file():
+        if path.relative_to(root).parts[2:3] != ("out",) and path.suffix in endings and path.is_file():
             yield path
 
 

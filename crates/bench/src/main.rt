@@ -1,5 +1,7 @@
 // The bench: reads a listing from standard input to its end, however long, in a fixed amount of memory, and prints its answer. A program has no status of its own, so where
 // input cannot be read, which is no answer about a text, or the answer cannot be written, it says why on standard error.
+#![tactic(auto)]
+
 use libc::{EINTR, STDERR_FILENO, STDIN_FILENO, STDOUT_FILENO};
 use listing::page::{PAGE_BYTES, finish};
 use listing::reader::{Reader, feed, start};

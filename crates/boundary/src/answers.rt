@@ -6,7 +6,7 @@ use grid::Answer;
 
 // A number of the table and an index; 0 and 0 where the call is done.
 #[repr(C)]
-#[derive(Drop)]
+#[derive(Clone, Copy)]
 pub struct Refusal {
     pub number: u32,
     pub index: usize,

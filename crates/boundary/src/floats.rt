@@ -11,14 +11,14 @@ use numeric::dim2::{Point, Vector};
 
 // The weights of three nodes in a row.
 #[repr(C)]
-#[derive(Drop)]
+#[derive(Clone, Copy)]
 pub struct Weights {
     pub weights: [f32; 3],
 }
 
 // The same for each axis of the plane.
 #[repr(C)]
-#[derive(Drop)]
+#[derive(Clone, Copy)]
 pub struct Weights2 {
     pub x: [f32; 3],
     pub y: [f32; 3],

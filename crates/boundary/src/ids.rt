@@ -4,25 +4,25 @@ ghost use Rattle.packing.specs.Mask.{axis_sum};
 ghost use Rattle.packing.specs.Ids.{dim2, dim3, region, packed_id, coordinates, sum, complement, diagonal, minus_one, minus_two, plus_five, number, cell_of, in_colour, region_neighbours, packed_shifts, packed_region_shifts, stencil_of};
 
 #[repr(C)]
-#[derive(Drop)]
+#[derive(Clone, Copy)]
 pub struct Ids3 {
     pub ids: [u64; 3],
 }
 
 #[repr(C)]
-#[derive(Drop)]
+#[derive(Clone, Copy)]
 pub struct Ids7 {
     pub ids: [u64; 7],
 }
 
 #[repr(C)]
-#[derive(Drop)]
+#[derive(Clone, Copy)]
 pub struct Ids9 {
     pub ids: [u64; 9],
 }
 
 #[repr(C)]
-#[derive(Drop)]
+#[derive(Clone, Copy)]
 pub struct Ids27 {
     pub ids: [u64; 27],
 }

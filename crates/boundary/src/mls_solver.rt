@@ -7,7 +7,7 @@ use lengths::End;
 // A number of the table and an index; and, where these are 0, how many substeps the step has, what time remains, and how it ended: 0 finished, 1 after the one that was asked
 // for, 2 for want of a proposal.
 #[repr(C)]
-#[derive(Drop)]
+#[derive(Clone, Copy)]
 pub struct Lengths {
     pub number: u32,
     pub index: usize,
@@ -18,7 +18,7 @@ pub struct Lengths {
 
 // The same of one substep: its length, and what time remains behind it.
 #[repr(C)]
-#[derive(Drop)]
+#[derive(Clone, Copy)]
 pub struct Substep {
     pub number: u32,
     pub index: usize,
@@ -28,7 +28,7 @@ pub struct Substep {
 
 // The same of the least length.
 #[repr(C)]
-#[derive(Drop)]
+#[derive(Clone, Copy)]
 pub struct LeastLength {
     pub number: u32,
     pub index: usize,

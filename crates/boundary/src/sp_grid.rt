@@ -15,7 +15,7 @@ use numeric::dim2::Point;
 
 // Where an id stands in a list: 1 and its place, or 0 and 0.
 #[repr(C)]
-#[derive(Drop)]
+#[derive(Clone, Copy)]
 pub struct FoundPlace {
     pub found: u32,
     pub place: usize,

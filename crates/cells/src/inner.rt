@@ -12,7 +12,7 @@ use packing::dim2::Cell;
 pub const STENCIL_SIDE: u32 = 3;
 
 // Where a point lies, in cells: the nearest whole number on each axis, and the cell before that.
-#[derive(Drop)]
+#[derive(Clone, Copy)]
 pub struct Near {
     pub at: Point,
     pub first: Cell,

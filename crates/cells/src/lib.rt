@@ -1,11 +1,13 @@
 // Where things stand in the sparse grid: the cell of a point, the centre of a cell, the place of a region in a list. Every float and every list is taken.
+#![tactic(auto)]
+
 pub mod dim2;
 pub mod inner;
 
 ghost use Rattle.std.specs.Prelude.{◌≡◌, ◌+◌, ◌≤◌, length};
 ghost use Rattle.cells.specs.Lookup.{lookup, searched};
 
-#[derive(Drop)]
+#[derive(Clone, Copy)]
 pub enum Found {
     At(usize),
     Absent,

@@ -1,6 +1,8 @@
 // Reads and writes the fields of lines: whole numbers in upper case hexadecimal with a
 // fixed count of digits, and plain decimals. Every function takes any arguments and says exactly
 // what it answers, by the definitions of `specs/`.
+#![tactic(auto)]
+
 pub mod lines;
 pub mod out;
 
@@ -9,7 +11,7 @@ ghost use Rattle.std.proofs.Math.Seq.{slice};
 ghost use Rattle.fields.specs.Read.{place_of, digit_of, number_of, hex_of, decimal_of, read_in, signed_of};
 
 // What a field says: a number, or that the field is none of its kind.
-#[derive(Drop)]
+#[derive(Clone, Copy)]
 pub enum Number {
     Is(u64),
     Bad,

@@ -33,7 +33,7 @@ pub const GIVEN_FLOATS: usize = 2;
 pub const GIVEN_WORDS: usize = 1;
 
 // What a particle takes from the nodes of its stencil.
-#[derive(Drop)]
+#[derive(Clone, Copy)]
 struct Transfer {
     velocity: Vector,
     velocity_gradient: Matrix,
@@ -42,7 +42,7 @@ struct Transfer {
 }
 
 // What the host's models tell of a particle.
-#[derive(Drop)]
+#[derive(Clone, Copy)]
 struct Told {
     density: f32,
     energy: f32,

@@ -8,7 +8,7 @@ pub const NODE_WORDS: usize = 1;
 
 pub const CELLS_OF_REGION: usize = 16;
 
-#[derive(Drop)]
+#[derive(Clone, Copy)]
 pub struct GridNode {
     pub mass: f32,
     pub momentum: Vector,

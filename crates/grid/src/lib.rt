@@ -1,5 +1,7 @@
 // The nodes of the sparse grid in lent memory, what a call answers, and clearing. The host lends nodes as floats and words: `nf` and `nw`, 16 nodes for each listed
 // region, in the list's order and by the cell's number in its region.
+#![tactic(auto)]
+
 pub mod grid_node;
 pub mod inner;
 
@@ -13,14 +15,14 @@ ghost use Rattle.grid.specs.Clear.{clear_check, cleared, cleared_region};
 use grid_node::CELLS_OF_REGION;
 
 // A call is done, or refused by a rule at an index.
-#[derive(Drop)]
+#[derive(Clone, Copy)]
 pub enum Answer {
     Done,
     Refused(Rule, usize),
 }
 
 // The rules by which a call is refused, a case for each row of the table, in its order.
-#[derive(Drop)]
+#[derive(Clone, Copy)]
 pub enum Rule {
     Length,
     Limit,

@@ -1,5 +1,7 @@
 // The bench listing: lines with tabs that say a grid, its regions and particles, and what stands on the nodes after a scatter. A text is read in pieces, in a fixed amount of
 // memory, and answered by another text.
+#![tactic(auto)]
+
 pub mod lines;
 pub mod page;
 pub mod reader;

@@ -13,14 +13,14 @@ use fields::{Number, decimal, find, hex};
 pub(crate) const MOST_FIELDS: usize = 18;
 
 // The values of a line's fields, where it is one.
-#[derive(Drop)]
+#[derive(Clone, Copy)]
 pub(crate) struct Fields {
     pub good: bool,
     pub values: [u64; MOST_FIELDS],
 }
 
 // A field's value and where it ends.
-#[derive(Drop)]
+#[derive(Clone, Copy)]
 enum Step {
     Value(u64, usize),
     NoField,

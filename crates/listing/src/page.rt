@@ -32,7 +32,7 @@ const LIMIT: u64 = 2;
 const UNREADABLE: u64 = 11;
 
 // Where printing has come to: a place of the page, and how many nodes are printed.
-#[derive(Drop)]
+#[derive(Clone, Copy)]
 struct Place {
     at: usize,
     nodes: usize,

@@ -23,7 +23,7 @@ pub const KEPT_REGIONS: usize = 64;
 pub const KEPT_PARTICLES: usize = 256;
 
 // How many bytes of the line that has not ended are kept, and its index; whether every line before it could be read; what they say. The records themselves are in lent memory.
-#[derive(Drop)]
+#[derive(Clone, Copy)]
 pub struct Reader {
     pub have: usize,
     pub index: u64,

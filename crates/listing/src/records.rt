@@ -10,7 +10,7 @@ use numeric::dim2::{Matrix, Point, Vector};
 use particles::particle::Particle;
 
 // What a `w` line says.
-#[derive(Drop)]
+#[derive(Clone, Copy)]
 pub struct Settings {
     pub cell_width: f32,
     pub dt: f32,
@@ -18,26 +18,26 @@ pub struct Settings {
 }
 
 // What an `r` line says.
-#[derive(Drop)]
+#[derive(Clone, Copy)]
 pub struct Region {
     pub id: u64,
     pub start: u64,
     pub count: u64,
 }
 
-#[derive(Drop)]
+#[derive(Clone, Copy)]
 pub enum SettingsLine {
     AreSettings(Settings),
     NoSettings,
 }
 
-#[derive(Drop)]
+#[derive(Clone, Copy)]
 pub enum RegionLine {
     IsRegion(Region),
     NoRegion,
 }
 
-#[derive(Drop)]
+#[derive(Clone, Copy)]
 pub enum ParticleLine {
     IsParticle(Particle),
     NoParticle,

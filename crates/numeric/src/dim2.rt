@@ -5,14 +5,14 @@ ghost use Rattle.numeric.specs.Kernel.{minus_all, precompute_weights, stencil_wi
 use crate::kernel;
 
 #[repr(C)]
-#[derive(Drop)]
+#[derive(Clone, Copy)]
 pub struct Vector {
     pub x: f32,
     pub y: f32,
 }
 
 #[repr(C)]
-#[derive(Drop)]
+#[derive(Clone, Copy)]
 pub struct Point {
     pub x: f32,
     pub y: f32,
@@ -20,7 +20,7 @@ pub struct Point {
 
 // By rows: m01 stands in row 0, column 1.
 #[repr(C)]
-#[derive(Drop)]
+#[derive(Clone, Copy)]
 pub struct Matrix {
     pub m00: f32,
     pub m01: f32,

@@ -1,4 +1,6 @@
 // The float rules that the stages lean on: rounding, cast, root, inverse, maximum, and the kernel. Floats only, and every f32 is taken.
+#![tactic(auto)]
+
 mod bits;
 pub mod dim2;
 pub mod inner;

@@ -3,7 +3,7 @@
 use fields::{Number, hex, low};
 
 // A question, or that a line is none. A field that the operation does not have is 0.
-#[derive(Drop)]
+#[derive(Clone, Copy)]
 pub enum Question {
     Is {
         letter: u8,

@@ -57,6 +57,7 @@ all_differ (x ∷ l) = absent x l && all_differ l
 
 not_there : (x : ℕ) (l : List ℕ) → T (absent x l) → x ∈ l → ⊥
 unfolding absent
+not_there x [] t n = elim n [ ]
 not_there x (y ∷ l) t (Memᴰ.head e) =
     T_not (eqb x y) (both_left (not (eqb x y)) (absent x l) t) (subst (λ (z : ℕ). T (eqb x z)) e (eqb_refl x))
 not_there x (y ∷ l) t (Memᴰ.tail m) = not_there x l (both_right (not (eqb x y)) (absent x l) t) m

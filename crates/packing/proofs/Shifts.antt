@@ -44,6 +44,7 @@ grid vals (m ∷ ms) = before vals (grid vals ms)
 
 put_before : {v : ℕ} {vals cs : List ℕ} {l : List (List ℕ)} → v ∈ vals → cs ∈ l → (v ∷ cs) ∈ before vals l
 unfolding before
+put_before {v} {vals = []} {cs} {l} n m = elim n [ ]
 put_before {v} {vals = w ∷ vs} {cs} {l} (Memᴰ.head e) m =
     Memᴰ.append_left (before vs l) (Memᴰ.cast (ap (λ (x : ℕ). x ∷ cs) e) (in_map (λ cs. w ∷ cs) m))
 put_before {v} {vals = w ∷ vs} {cs} {l} (Memᴰ.tail n) m = Memᴰ.append_right (map (λ cs. w ∷ cs) l) (put_before n m)
@@ -113,6 +114,7 @@ all_in (k ∷ ks) ls = both (has ls k) (all_in ks ls)
 
 pub all_in→in : (ks ls : List (List ℕ)) → T (all_in ks ls) → {k : List ℕ} → k ∈ ks → k ∈ ls
 unfolding all_in
+all_in→in [] ls t m = elim m [ ]
 all_in→in (k ∷ ks) ls t (Memᴰ.head e) = Memᴰ.cast e (has→in ls k (both_left (has ls k) (all_in ks ls) t))
 all_in→in (k ∷ ks) ls t (Memᴰ.tail m) = all_in→in ks ls (both_right (has ls k) (all_in ks ls) t) m
 

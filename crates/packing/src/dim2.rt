@@ -21,7 +21,7 @@ pub const PACKED_NBH_SHIFTS: [u64; 9] = [640, 128, 384, 512, 0, 256, 576, 64, 32
 pub const PACKED_NBH_REGION_SHIFTS: [u64; 3] = [8192, 12288, 4096];
 
 #[repr(C)]
-#[derive(Drop)]
+#[derive(Clone, Copy)]
 pub struct Cell {
     pub x: u32,
     pub y: u32,

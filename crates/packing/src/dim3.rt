@@ -26,7 +26,7 @@ pub const PACKED_NBH_SHIFTS: [u64; 27] = [
 pub const PACKED_NBH_REGION_SHIFTS: [u64; 7] = [16384, 8192, 24576, 4096, 20480, 12288, 28672];
 
 #[repr(C)]
-#[derive(Drop)]
+#[derive(Clone, Copy)]
 pub struct Cell {
     pub x: u32,
     pub y: u32,

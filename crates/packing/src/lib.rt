@@ -1,4 +1,6 @@
 // Packed ids of the cells of a sparse grid: sums, regions, colours, neighbours, in 2D and 3D. Whole numbers only.
+#![tactic(auto)]
+
 pub mod dim2;
 pub mod dim3;
 mod morton2;

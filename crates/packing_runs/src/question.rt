@@ -2,7 +2,7 @@
 use fields::{Number, decimal, find, hex};
 
 // A question, or that a line is none.
-#[derive(Drop)]
+#[derive(Clone, Copy)]
 pub enum Question {
     Is {
         letter: u8,
@@ -16,7 +16,7 @@ pub enum Question {
 
 // The kind of each field of an operation: H, W and D as the vectors' format has them, C a decimal
 // below 2^32, and `-` for a field that must not be there.
-#[derive(Drop)]
+#[derive(Clone, Copy)]
 struct Kinds {
     first: u8,
     second: u8,

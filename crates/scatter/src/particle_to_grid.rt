@@ -33,14 +33,14 @@ use particles::particle::Particle;
 const COLORS: u64 = 4;
 
 // What particles are taken to the nodes for: all of a scatter, by its step and gravity, or their mass alone.
-#[derive(Drop)]
+#[derive(Clone, Copy)]
 pub(crate) enum Pass {
     ForAll(f32, Vector),
     ForMass,
 }
 
 // What a particle brings to each node of its stencil in a scatter.
-#[derive(Drop)]
+#[derive(Clone, Copy)]
 struct Contribution {
     mass: f32,
     momentum: Vector,
@@ -50,7 +50,7 @@ struct Contribution {
 }
 
 // What a particle is loaded with in a pass.
-#[derive(Drop)]
+#[derive(Clone, Copy)]
 enum Load {
     All(f32, Vector, Contribution),
     Mass(f32),

@@ -26,7 +26,7 @@ pub const PROJECTION_FLOATS: usize = 2;
 pub const PROJECTION_WORDS: usize = 1;
 
 // What is done at a boundary; friction and friction z-up act alike.
-#[derive(Drop)]
+#[derive(Clone, Copy)]
 pub(crate) enum BoundaryHandling {
     None,
     Stick,
@@ -34,21 +34,21 @@ pub(crate) enum BoundaryHandling {
 }
 
 // What a code stands for.
-#[derive(Drop)]
+#[derive(Clone, Copy)]
 pub(crate) enum Handling {
     Known(BoundaryHandling),
     Unknown,
 }
 
 // Where a cell projects to on a collider.
-#[derive(Drop)]
+#[derive(Clone, Copy)]
 pub(crate) enum Projection {
     Inside(f32, f32),
     Outside(f32, f32),
 }
 
 // A unit vector with the length that it had, or none where that was too short.
-#[derive(Drop)]
+#[derive(Clone, Copy)]
 pub(crate) enum Normal {
     Of(Vector, f32),
     Absent,

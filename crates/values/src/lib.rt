@@ -1,4 +1,6 @@
 // Document 01's eleven values, asked of the port's own functions.
+#![tactic(auto)]
+
 ghost use Rattle.std.specs.Prelude.{◌≡◌};
 ghost use Rattle.values.specs.Table.{table, whole_said, floats_said};
 
@@ -6,7 +8,7 @@ use numeric::kernel;
 use packing::{dim2, dim3};
 
 // What the port answers, row by row: eight whole numbers, and five floats in three rows.
-#[derive(Drop)]
+#[derive(Clone, Copy)]
 pub struct Values {
     pub whole: [u64; 8],
     pub floats: [f32; 5],

@@ -1,0 +1,26 @@
+use borrow.Author.Rules.{rules}
+use borrow.Author.Tests.{lt-ltb, le-ltb, le-leb, lt-leb}
+use Rattle.fields.specs.Read.{digit_of}
+use Rattle.fields.proofs.digit.Goals as goal
+
+pub returns-then-b-lt48 : goal.returns-then-b-lt48
+unfolding digit_of
+returns-then-b-lt48 c = rw (lt-ltb _ _ c.if-b-lt48.true)
+
+pub returns-then-b-le57 : goal.returns-then-b-le57
+unfolding digit_of
+returns-then-b-le57 c = rw (le-ltb _ _ c.if-b-lt48.false, le-leb _ _ c.if-b-le57.true) c.wide.ensures
+
+pub returns-then-b-lt65 : goal.returns-then-b-lt65
+unfolding digit_of
+returns-then-b-lt65 c = rw (le-ltb _ _ c.if-b-lt48.false, lt-leb _ _ c.if-b-le57.false, lt-ltb _ _ c.if-b-lt65.true)
+
+pub returns-then-b-le70 : goal.returns-then-b-le70
+unfolding digit_of
+returns-then-b-le70 c =
+    rw (le-ltb _ _ c.if-b-lt48.false, lt-leb _ _ c.if-b-le57.false, le-ltb _ _ c.if-b-lt65.false, le-leb _ _ c.if-b-le70.true, c.wide-then-b-le70.ensures)
+
+pub returns : goal.returns
+unfolding digit_of
+returns c =
+    rw (le-ltb _ _ c.if-b-lt48.false, lt-leb _ _ c.if-b-le57.false, le-ltb _ _ c.if-b-lt65.false, lt-leb _ _ c.if-b-le70.false)

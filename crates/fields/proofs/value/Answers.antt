@@ -1,0 +1,43 @@
+-- The number that is asked for is, at each turn, n and then the digits from i on.
+use Prim.Native.Nat.{◌+◌, ◌*◌, ◌<◌, ◌-◌, ◌^◌}
+use mathlib.Core.Path.{◌≡◌, refl, ◌∙◌, ap, sym}
+use native.Mathlib.Omega.{arith}
+use borrow.Author.Rules.{rules}
+use lib.Seq.{slice}
+use Rattle.fields.specs.Read.{onward, bounded, number_of}
+use Rattle.fields.proofs.Reading.{room, no_room, digit_bad, digit_more, digit_over, digits_end}
+use Rattle.fields.proofs.value.Goals as goal
+
+fits : (c : tie.Else2 invariant-loop decreases-loop)
+    → c.before.before.before.before.before.loop.n * c.before.before.before.before.before.before.before.args.base + c.before.before.digit.result < 2 ^ 64
+fits c =
+    let small : c.before.before.digit.result < 2 ^ 64 = omega arith in
+    room _ _ _ c.before.if1.false small c.if2.false
+
+pub loop-i-init : goal.loop-i-init
+unfolding number_of
+loop-i-init c = (omega arith, refl)
+
+pub returns-then-base-d : goal.returns-then-base-d
+returns-then-base-d c =
+    sym (c.loop-i.invariant.1 ∙ digit_bad _ _ _ _ _ c.args.s.now c.digit-d.ensures c.loop-i-test.true c.requires c.if-base-d.true)
+
+pub returns-then-d-base : goal.returns-then-d-base
+returns-then-d-base c =
+    let small : c.digit-d.result < 2 ^ 64 = omega arith in
+    let more = no_room _ _ _ c.if-base-d.false small c.if-d-base.true in
+    sym (c.loop-i.invariant.1 ∙ digit_over _ _ _ _ _ c.args.s.now c.digit-d.ensures c.loop-i-test.true c.requires c.if-base-d.false more)
+
+pub overflow_mul-n : goal.overflow_mul-n
+overflow_mul-n c = omega (arith, fits c)
+
+pub overflow_add-n : goal.overflow_add-n
+overflow_add-n c = record { fits = fits c }
+
+pub loop-i-preserved : goal.loop-i-preserved
+loop-i-preserved c =
+    (fits c, c.loop-i.invariant.1 ∙ ap bounded (digit_more _ _ _ _ _ c.args.s.now c.digit-d.ensures c.loop-i-test.true c.requires c.if-base-d.false))
+
+pub returns : goal.returns
+returns c =
+    sym (c.loop-i.invariant.1 ∙ digits_end _ _ _ _ _ c.loop-i-test.false c.requires c.loop-i.invariant.0)

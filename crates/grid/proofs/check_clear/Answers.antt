@@ -1,0 +1,25 @@
+-- `grid::check_clear` meets its contract.
+use borrow.Author.Rules.{rules}
+use Rattle.grid.specs.Clear.{clear_check}
+use Rattle.grid.proofs.Answers.{stops, unless_end}
+use Rattle.grid.proofs.check_clear.Goals as goal
+
+pub returns-then-not-ids-regions : goal.returns-then-not-ids-regions
+unfolding clear_check
+returns-then-not-ids-regions c = rw (← c.holds_nodes.ensures, c.if-not-ids-regions.true)
+
+pub returns-in_default : goal.returns-in_default
+unfolding clear_check
+returns-in_default c =
+    rw (← c.holds_nodes.ensures, c.if-not-ids-regions.false, ← c.check_limits-a.ensures, stops _ c.in_default.keys2)
+
+pub returns : goal.returns
+unfolding clear_check
+returns c =
+    rw (
+      ← c.holds_nodes.ensures,
+      c.if-not-ids-regions.false,
+      ← c.check_limits-a.ensures,
+      c.in-Done.is,
+      unless_end,
+    ) c.check_regions.ensures

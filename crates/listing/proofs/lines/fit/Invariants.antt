@@ -1,0 +1,15 @@
+-- Whether all fields fit is, at each turn, whether those that are left fit into what is left.
+use Prim.Native.Nat.{◌-◌, ◌≤◌}
+use mathlib.Core.Path.{◌≡◌, refl, sym, ◌∙◌}
+use native.Mathlib.Omega.{arith}
+use borrow.Author.Rules.{rules}
+use lib.Dec.{leb}
+use lib.ListN.{length}
+use Rattle.listing.proofs.Printing.{left, fit_none, fit_not, fit_more}
+use Rattle.listing.proofs.lines.fit.Given as goal
+
+abbrev pub invariant-loop-k : goal.invariant-loop-k
+invariant-loop-k l = (l.k ≤ length l.kinds) × (leb (length (left l.kinds l.values 0)) l.room ≡ leb (length (left l.kinds l.values l.k)) l.left)
+
+abbrev pub decreases-loop-k : goal.decreases-loop-k
+decreases-loop-k l = length l.kinds - l.k

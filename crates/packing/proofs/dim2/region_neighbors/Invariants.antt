@@ -1,0 +1,12 @@
+-- `packing::dim2::region_neighbors` meets its contract: after k turns the k first sums are there.
+use Rattle.std.proofs.Common.{◌-◌, refl, arith}
+use Rattle.packing.specs.Mask.{packed, place}
+use Rattle.packing.specs.Ids.{dim2, sum, packed_region_shifts, region_neighbours}
+use Rattle.packing.proofs.Fill.{Filled, filled, filled_more, filled_all}
+use Rattle.packing.proofs.dim2.region_neighbors.Given as goal
+
+abbrev pub invariant-loop-k : goal.invariant-loop-k
+invariant-loop-k l = Filled (sum dim2 l.region_id) (packed_region_shifts dim2) l.k l.ids
+
+abbrev pub decreases-loop-k : goal.decreases-loop-k
+decreases-loop-k l = 3 - l.k
