@@ -9,18 +9,19 @@ mod question;
 use fields::out::put_byte;
 use question::Question;
 use replay::Input;
+use std::io::{Print, Read};
 
-fn main() {
+fn main(rt: HostRuntime) {
     let mut space = [0u8; 65536];
     let mut room = [0u8; 65536];
-    lines(&mut space, &mut room);
+    lines(&mut rt.stdin(), &rt, &mut space, &mut room);
 }
 
-fn lines(buf: &mut [u8], out: &mut [u8]) {
+fn lines<R: Read, P: Print>(input: &mut R, output: &P, buf: &mut [u8], out: &mut [u8]) {
     let mut at = replay::start();
-    while let Input::Line(place) = replay::next(buf, at) {
+    while let Input::Line(place) = replay::next(input, output, buf, at) {
         let end = reply(buf, place.from, place.to, out);
-        replay::write_line(out, end);
+        replay::write_line(output, out, end);
         at = place;
     }
 }

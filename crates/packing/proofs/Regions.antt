@@ -6,7 +6,7 @@ use native.Mathlib.Nat.{mod-one}
 use native.Mathlib.Decide.{dec_lt}
 use lib.Arith.{mod-mul}
 use lib.Bits.{bit_or}
-use Rattle.packing.specs.Mask.{Mask, count, coord, coords, packed, wrapped, sums, whole, hd, tl}
+use Rattle.packing.specs.Mask.{Mask, count, coord, coords, packed, wrapped, sums, hd, tl}
 use Rattle.packing.specs.Ids.{region, from_fours, to_fours}
 use Rattle.packing.specs.Neighbours.{◌∈◌, near, nears, block, block_count, parities}
 use Rattle.packing.proofs.Linear.{both, both_left, both_right, and_both, place_zero, coord_zero}

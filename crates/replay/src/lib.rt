@@ -10,11 +10,11 @@ ghost use Rattle.replay.specs.Lines.{first, Holds, Question};
 use fields::find;
 use fields::lines::{begins, shift};
 use fields::out::put_byte;
-use libc::{STDIN_FILENO, STDOUT_FILENO};
+use std::io::{Print, Read};
 
 // A line of a buffer, from one place up to another, where the next one begins, how many of the
 // buffer's bytes have been read, and how many more lines are given.
-#[derive(Drop)]
+#[derive(Clone, Copy)]
 pub struct Place {
     pub from: usize,
     pub to: usize,
@@ -24,7 +24,7 @@ pub struct Place {
 }
 
 // What comes next: a line, or that there is none to answer.
-#[derive(Drop)]
+#[derive(Clone, Copy)]
 pub enum Input {
     Line(Place),
     End,
@@ -46,13 +46,13 @@ pub fn start() -> Place
 
 // The first line after the last one that is no comment. The comments before it are written as they
 // stand.
-pub fn next(buf: &mut [u8], last: Place) -> Input
+pub fn next<R: Read, P: Print>(input: &mut R, output: &P, buf: &mut [u8], last: Place) -> Input
     ensures buf_len_unchanged { length buf.new ≡ length buf.old }
     ensures question { Question last.left buf.new result }
 {
     let mut at = last;
-    while let Input::Line(place) = any_next(buf, at) {
-        if !copied(buf, place.from, place.to) {
+    while let Input::Line(place) = any_next(input, output, buf, at) {
+        if !copied(output, buf, place.from, place.to) {
             return Input::Line(place);
         }
         at = place;
@@ -63,7 +63,7 @@ pub fn next(buf: &mut [u8], last: Place) -> Input
 // The line after the last one. Only where the buffer holds no whole line any more, what is left of
 // it moves to the front, and more is read behind that. There is no next line of a place that is not
 // in the buffer.
-fn any_next(buf: &mut [u8], last: Place) -> Input
+fn any_next<R: Read, P: Print>(input: &mut R, output: &P, buf: &mut [u8], last: Place) -> Input
     ensures buf_len_unchanged { length buf.new ≡ length buf.old }
     ensures holds { Holds last.left buf.new result }
 {
@@ -87,11 +87,17 @@ fn any_next(buf: &mut [u8], last: Place) -> Input
         });
     }
     let rest = shift(buf, at, have);
-    read_line(buf, rest, left)
+    read_line(input, output, buf, rest, left)
 }
 
 // Reads behind the first `rest` bytes until a line ends.
-fn read_line(buf: &mut [u8], rest: usize, left: u64) -> Input
+fn read_line<R: Read, P: Print>(
+    input: &mut R,
+    output: &P,
+    buf: &mut [u8],
+    rest: usize,
+    left: u64,
+) -> Input
     requires { 0 < left }
     ensures buf_len_unchanged { length buf.new ≡ length buf.old }
     ensures holds { Holds left buf.new result }
@@ -99,7 +105,7 @@ fn read_line(buf: &mut [u8], rest: usize, left: u64) -> Input
     let mut have = rest;
     let mut turns = u64::MAX;
     while turns > 0 {
-        have = read_more(buf, have);
+        have = read_more(input, output, buf, have);
         if have == 0 {
             return Input::End;
         }
@@ -120,20 +126,19 @@ fn read_line(buf: &mut [u8], rest: usize, left: u64) -> Input
 
 // One read, behind the first `have` bytes: how many there are then, or 0 where there is no more to
 // do. A last line that no line feed ends gets one.
-fn read_more(buf: &mut [u8], have: usize) -> usize
+fn read_more<R: Read, P: Print>(input: &mut R, output: &P, buf: &mut [u8], have: usize) -> usize
     ensures { result ≤ length buf.new }
 {
     if buf.len() <= have {
-        io::write_all(STDOUT_FILENO, b"line too long\n");
+        write(output, b"line too long\n");
         return 0;
     }
-    let got = libc::read(STDIN_FILENO, &mut buf[have..]);
-    if got < 0 {
-        io::write_all(STDOUT_FILENO, b"read error\n");
+    let Ok(got) = input.read(&mut buf[have..]) else {
+        write(output, b"read error\n");
         return 0;
-    }
+    };
     if got > 0 {
-        return have + io::count(got, &buf[have..]);
+        return have + got;
     }
     if have == 0 {
         return 0;
@@ -143,31 +148,36 @@ fn read_more(buf: &mut [u8], have: usize) -> usize
 }
 
 // Whether the line from `from` up to `to` is a comment. One that is, is written.
-fn copied(text: &[u8], from: usize, to: usize) -> bool
+fn copied<P: Print>(output: &P, text: &[u8], from: usize, to: usize) -> bool
     ensures { result ≡ begins_with 35 (slice from to text.now) }
 {
     let yes = begins(text, from, to, b'#');
     if yes {
-        write_part(text, from, to);
-        io::write_all(STDOUT_FILENO, b"\n");
+        write_part(output, text, from, to);
+        write(output, b"\n");
     }
     yes
 }
 
 // Puts a line feed at `end` and writes out up to there. Where it does not fit, out goes without it.
-pub fn write_line(out: &mut [u8], end: usize)
+pub fn write_line<P: Print>(output: &P, out: &mut [u8], end: usize)
     ensures { out.new ≡ put_at out.old end (10 ∷ []) }
 {
     let next = put_byte(out, end, b'\n');
-    write_part(out, 0, next);
+    write_part(output, out, 0, next);
 }
 
-fn write_part(text: &[u8], from: usize, to: usize) {
+fn write_part<P: Print>(output: &P, text: &[u8], from: usize, to: usize) {
     if text.len() < to {
         return;
     }
     if to < from {
         return;
     }
-    io::write_all(STDOUT_FILENO, &text[from..to]);
+    write(output, &text[from..to]);
+}
+
+// Writes all of the bytes. A write that fails is passed over: what is missing shows where the answers are compared.
+fn write<P: Print>(output: &P, bytes: &[u8]) {
+    let _ = output.write_all(bytes);
 }

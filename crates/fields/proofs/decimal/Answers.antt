@@ -1,5 +1,4 @@
 use mathlib.Core.Path.{sym, ◌∙◌}
-use borrow.Author.Rules.{rules}
 use borrow.Author.Tests.{eq-eqb, ne_eqb}
 use Rattle.fields.proofs.Reading.{read_out, decimal_none, decimal_one, decimal_more}
 use Rattle.fields.proofs.decimal.Goals as goal

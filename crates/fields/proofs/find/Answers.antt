@@ -1,10 +1,7 @@
 -- The place that is asked for in the bytes before `end` is, at each turn, the one asked for from i on.
-use Prim.Native.Nat.{◌≤◌, ◌-◌, min}
-use mathlib.Core.Path.{◌≡◌, refl, sym, ◌∙◌}
+use mathlib.Core.Path.{refl, sym, ◌∙◌}
 use native.Mathlib.Omega.{arith}
-use borrow.Author.Rules.{rules}
-use lib.ListN.{length, take, length-take}
-use Rattle.fields.specs.Read.{place_of}
+use lib.ListN.{length-take}
 use Rattle.fields.proofs.Reading.{place_hit, place_miss, place_end}
 use Rattle.fields.proofs.find.Goals as goal
 
@@ -14,7 +11,7 @@ loop-place-init c = (c.least-stop.ensures, omega arith, rw length-take c.least-s
 pub returns-then-s-place : goal.returns-then-s-place
 returns-then-s-place c =
     let p = c.args in
-    record { value = sym (c.loop-place.invariant.3 ∙ place_hit _ _ p.end _ p.s.now c.loop-place.invariant.2 c.loop-place-test.true c.if-s-place.true); lower_bound = (omega arith, omega arith); }
+    record { value = sym (c.loop-place.invariant.3 ∙ place_hit _ _ p.end _ p.s.now c.loop-place.invariant.2 c.loop-place-test.true c.if-s-place.true); lower_bound = (omega arith, omega arith) }
 
 pub loop-place-preserved : goal.loop-place-preserved
 loop-place-preserved c =
@@ -24,4 +21,4 @@ loop-place-preserved c =
 pub returns : goal.returns
 returns c =
     let p = c.args in
-    record { value = sym (c.loop-place.invariant.3 ∙ place_end _ _ p.end _ p.s.now c.loop-place.invariant.2 c.loop-place-test.false); lower_bound = (omega arith, omega arith); }
+    record { value = sym (c.loop-place.invariant.3 ∙ place_end _ _ p.end _ p.s.now c.loop-place.invariant.2 c.loop-place-test.false); lower_bound = (omega arith, omega arith) }

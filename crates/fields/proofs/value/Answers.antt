@@ -1,18 +1,16 @@
 -- The number that is asked for is, at each turn, n and then the digits from i on.
-use Prim.Native.Nat.{◌+◌, ◌*◌, ◌<◌, ◌-◌, ◌^◌}
-use mathlib.Core.Path.{◌≡◌, refl, ◌∙◌, ap, sym}
+use Prim.Native.Nat.{◌+◌, ◌*◌, ◌<◌, ◌^◌}
+use mathlib.Core.Path.{refl, ◌∙◌, ap, sym}
 use native.Mathlib.Omega.{arith}
-use borrow.Author.Rules.{rules}
-use lib.Seq.{slice}
-use Rattle.fields.specs.Read.{onward, bounded, number_of}
+use Rattle.fields.specs.Read.{bounded, number_of}
 use Rattle.fields.proofs.Reading.{room, no_room, digit_bad, digit_more, digit_over, digits_end}
+use Rattle.fields.proofs.value.Goals.{Else-d-base}
 use Rattle.fields.proofs.value.Goals as goal
 
-fits : (c : tie.Else2 invariant-loop decreases-loop)
-    → c.before.before.before.before.before.loop.n * c.before.before.before.before.before.before.before.args.base + c.before.before.digit.result < 2 ^ 64
+fits : (c : Else-d-base) → c.loop-i.n * c.args.base + c.digit-d.result < 2 ^ 64
 fits c =
-    let small : c.before.before.digit.result < 2 ^ 64 = omega arith in
-    room _ _ _ c.before.if1.false small c.if2.false
+    let small : c.digit-d.result < 2 ^ 64 = omega arith in
+    room _ _ _ c.if-base-d.false small c.if-d-base.false
 
 pub loop-i-init : goal.loop-i-init
 unfolding number_of
@@ -29,14 +27,14 @@ returns-then-d-base c =
     sym (c.loop-i.invariant.1 ∙ digit_over _ _ _ _ _ c.args.s.now c.digit-d.ensures c.loop-i-test.true c.requires c.if-base-d.false more)
 
 pub overflow_mul-n : goal.overflow_mul-n
-overflow_mul-n c = omega (arith, fits c)
+overflow_mul-n c = omega (arith, fits (goal.at.overflow_mul-n c).Else-d-base)
 
 pub overflow_add-n : goal.overflow_add-n
-overflow_add-n c = record { fits = fits c }
+overflow_add-n c = record { fits = fits (goal.at.overflow_add-n c).Else-d-base }
 
 pub loop-i-preserved : goal.loop-i-preserved
 loop-i-preserved c =
-    (fits c, c.loop-i.invariant.1 ∙ ap bounded (digit_more _ _ _ _ _ c.args.s.now c.digit-d.ensures c.loop-i-test.true c.requires c.if-base-d.false))
+    (fits (goal.at.loop-i-preserved c).Else-d-base, c.loop-i.invariant.1 ∙ ap bounded (digit_more _ _ _ _ _ c.args.s.now c.digit-d.ensures c.loop-i-test.true c.requires c.if-base-d.false))
 
 pub returns : goal.returns
 returns c =

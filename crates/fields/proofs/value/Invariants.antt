@@ -1,11 +1,8 @@
 -- The number that is asked for is, at each turn, n and then the digits from i on.
-use Prim.Native.Nat.{◌+◌, ◌*◌, ◌<◌, ◌-◌, ◌^◌}
-use mathlib.Core.Path.{◌≡◌, refl, ◌∙◌, ap, sym}
-use native.Mathlib.Omega.{arith}
-use borrow.Author.Rules.{rules}
+use Prim.Native.Nat.{◌<◌, ◌-◌, ◌^◌}
+use mathlib.Core.Path.{◌≡◌}
 use lib.Seq.{slice}
 use Rattle.fields.specs.Read.{onward, bounded, number_of}
-use Rattle.fields.proofs.Reading.{room, no_room, digit_bad, digit_more, digit_over, digits_end}
 use Rattle.fields.proofs.value.Given as goal
 
 abbrev pub invariant-loop-i : goal.invariant-loop-i

@@ -1,5 +1,4 @@
 use lib.Ieee.{of_bits}
-use borrow.Author.Rules.{rules}
 use Rattle.values.specs.Table.{claim}
 use Rattle.values.proofs.floats.Goals as goal
 

@@ -1,5 +1,4 @@
 use mathlib.Core.Path.{◌∙◌}
-use borrow.Author.Rules.{rules}
 use Rattle.values.specs.Table.{claim}
 use Rattle.values.proofs.whole.Goals as goal
 

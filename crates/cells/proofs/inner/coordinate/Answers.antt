@@ -8,6 +8,7 @@ use Rattle.numeric.proofs.Patterns.{yes, no, is_nan_lem, no_nan}
 use Rattle.numeric.proofs.Ranges.{and_false, out, out_nan, rounds, whole_range, whole_cast}
 use Rattle.cells.specs.Cells.{in_range}
 use Rattle.cells.specs.Stencil.{IsCoordinate}
+use Rattle.cells.proofs.inner.coordinate.Goals.{After-nearest_whole-n}
 use Rattle.cells.proofs.inner.coordinate.Goals as goal
 
 -- off the grid

@@ -1,5 +1,4 @@
 use native.Mathlib.Omega.{arith}
-use borrow.Author.Rules.{rules}
 use Rattle.fields.proofs.Moving.{begins_none, begins_some}
 use Rattle.fields.proofs.lines.begins.Goals as goal
 

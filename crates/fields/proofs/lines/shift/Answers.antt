@@ -1,10 +1,7 @@
 -- With the first i bytes of the part in front, the list is, at each turn, on its way to the one asked for.
-use Prim.Native.Nat.{◌+◌, ◌-◌, ◌≤◌, min}
 use mathlib.Core.Path.{◌≡◌, refl, ◌∙◌}
-use mathlib.Core.List.{◌++◌}
 use native.Mathlib.Omega.{arith}
-use borrow.Author.Rules.{rules}
-use lib.ListN.{length, take, drop, length-set}
+use lib.ListN.{length, length-set}
 use lib.Seq.{slice}
 use Rattle.fields.proofs.Moving.{length_part, moved_all, part_step}
 use Rattle.fields.proofs.lines.shift.Goals as goal
@@ -29,4 +26,4 @@ pub returns : goal.returns
 returns c =
     let p = c.args in
     let e : c.loop-place.i ≡ length (slice p.from p.to p.buf.now) = rw length_part (omega arith) in
-    record { buf_after = c.loop-place.invariant.4 ∙ moved_all _ _ _ e (rw length_part (omega arith)); value = e; }
+    record { buf_after = c.loop-place.invariant.4 ∙ moved_all _ _ _ e (rw length_part (omega arith)); value = e }

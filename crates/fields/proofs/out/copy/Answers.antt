@@ -1,9 +1,8 @@
 -- With the first i bytes of s in place, the list is on its way to the one asked for.
-use Prim.Native.Nat.{◌-◌, ◌≤◌}
-use mathlib.Core.Path.{◌≡◌, refl}
+use mathlib.Core.Path.{refl}
 use native.Mathlib.Omega.{arith}
-use lib.ListN.{length, length-set}
-use lib.Seq.{paste, paste-zero}
+use lib.ListN.{length-set}
+use lib.Seq.{paste-zero}
 use Rattle.fields.proofs.Writing.{copied_more, copied_all}
 use Rattle.fields.proofs.out.copy.Goals as goal
 

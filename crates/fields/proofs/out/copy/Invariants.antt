@@ -1,10 +1,8 @@
 -- With the first i bytes of s in place, the list is on its way to the one asked for.
 use Prim.Native.Nat.{◌-◌, ◌≤◌}
-use mathlib.Core.Path.{◌≡◌, refl}
-use native.Mathlib.Omega.{arith}
-use lib.ListN.{length, length-set}
-use lib.Seq.{paste, paste-zero}
-use Rattle.fields.proofs.Writing.{copied_more, copied_all}
+use mathlib.Core.Path.{◌≡◌}
+use lib.ListN.{length}
+use lib.Seq.{paste}
 use Rattle.fields.proofs.out.copy.Given as goal
 
 abbrev pub invariant-loop-i : goal.invariant-loop-i

@@ -1,11 +1,8 @@
 -- With what is left of n spelled before i, the list is, at each turn, the one asked for.
-use Prim.Native.Nat.{◌-◌, ◌≤◌}
 use mathlib.Core.Path.{◌≡◌, refl, sym, ◌∙◌}
-use mathlib.Core.List.{◌++◌}
 use native.Mathlib.Nat.{mod-lt}
 use native.Mathlib.Omega.{arith}
-use lib.ListN.{length, take, drop, length-set}
-use Rattle.fields.specs.Write.{digits_of}
+use lib.ListN.{length-set}
 use Rattle.fields.proofs.Writing.{fill_step, fill_end}
 use Rattle.fields.proofs.out.fill.Goals as goal
 
@@ -13,16 +10,15 @@ pub loop-i-init : goal.loop-i-init
 loop-i-init c = (omega arith, omega arith, refl, refl)
 
 pub glyph-requires : goal.glyph-requires
-glyph-requires c = omega (arith, mod-lt c.loop-i.rest c.requires.0.0)
+glyph-requires c = omega (arith, mod-lt c.loop-i.rest c.requires.base_nonzero.0)
 
 pub loop-i-preserved : goal.loop-i-preserved
-loop-i-preserved c =
-    (
-      omega arith,
-      omega arith,
-      simp length-set c.loop-i.invariant.2,
-      c.loop-i.invariant.3 ∙ rw c.glyph.ensures (fill_step _ _ _ _ _ c.loop-i-test.true (omega arith)),
-    )
+loop-i-preserved c = (
+  omega arith,
+  omega arith,
+  simp length-set c.loop-i.invariant.2,
+  c.loop-i.invariant.3 ∙ rw c.glyph.ensures (fill_step _ _ _ _ _ c.loop-i-test.true (omega arith)),
+)
 
 pub shape_of-out : goal.shape_of-out
 shape_of-out c = c.loop-i.invariant.2

@@ -1,8 +1,7 @@
 -- k - 1 digits are counted, and those of `rest` are left. No more than n + 1 - k of them can be.
-use Prim.Native.Nat.{◌+◌, ◌-◌, ◌≤◌}
+use Prim.Native.Nat.{◌+◌, ◌-◌}
 use mathlib.Core.Path.{◌≡◌}
 use native.Mathlib.Omega.{arith}
-use Rattle.fields.specs.Write.{places_of}
 use Rattle.fields.proofs.Writing.{places_more, places_one}
 use Rattle.fields.proofs.out.places.Goals as goal
 

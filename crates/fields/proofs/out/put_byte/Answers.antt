@@ -2,7 +2,6 @@ use mathlib.Core.Path.{refl, ◌∙◌}
 use mathlib.Core.List.{◌∷◌, []}
 use native.Mathlib.Numerals.{add-one}
 use native.Mathlib.Omega.{arith}
-use borrow.Author.Rules.{rules}
 use lib.Seq.{set_split}
 use Rattle.fields.proofs.Writing.{fits, full}
 use Rattle.fields.proofs.out.put_byte.Goals as goal
@@ -11,7 +10,10 @@ pub returns-then-at-out : goal.returns-then-at-out
 returns-then-at-out c =
     let a = c.args in
     let p = fits a.out.now a.at (a.b ∷ []) 1 refl (omega arith) in
-    record { out_after = set_split _ _ _ c.if-at-out.true ∙ (rw add-one at p.0); value = p.1; }
+    record { out_after = set_split _ _ _ c.if-at-out.true ∙ (rw add-one at p.0); value = p.1 }
 
 pub returns : goal.returns
-returns c = let a = c.args in full a.out.now a.at (a.b ∷ []) 1 refl (omega arith)
+returns c =
+    let a = c.args in
+    let p = full a.out.now a.at (a.b ∷ []) 1 refl (omega arith) in
+    record { out_after = p.0; value = p.1 }

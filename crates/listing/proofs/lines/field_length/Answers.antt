@@ -1,5 +1,4 @@
 use mathlib.Core.Path.{◌∙◌}
-use borrow.Author.Rules.{rules}
 use Rattle.listing.proofs.Printing.{length_hex, length_decimal}
 use Rattle.listing.proofs.lines.field_length.Goals as goal
 

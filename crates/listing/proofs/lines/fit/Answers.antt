@@ -1,11 +1,7 @@
 -- Whether all fields fit is, at each turn, whether those that are left fit into what is left.
-use Prim.Native.Nat.{◌-◌, ◌≤◌}
-use mathlib.Core.Path.{◌≡◌, refl, sym, ◌∙◌}
+use mathlib.Core.Path.{refl, sym, ◌∙◌}
 use native.Mathlib.Omega.{arith}
-use borrow.Author.Rules.{rules}
-use lib.Dec.{leb}
-use lib.ListN.{length}
-use Rattle.listing.proofs.Printing.{left, fit_none, fit_not, fit_more}
+use Rattle.listing.proofs.Printing.{fit_none, fit_not, fit_more}
 use Rattle.listing.proofs.lines.fit.Goals as goal
 
 pub returns-then-left-need : goal.returns-then-left-need

@@ -1,11 +1,9 @@
 -- Whether all fields fit is, at each turn, whether those that are left fit into what is left.
 use Prim.Native.Nat.{◌-◌, ◌≤◌}
-use mathlib.Core.Path.{◌≡◌, refl, sym, ◌∙◌}
-use native.Mathlib.Omega.{arith}
-use borrow.Author.Rules.{rules}
+use mathlib.Core.Path.{◌≡◌}
 use lib.Dec.{leb}
 use lib.ListN.{length}
-use Rattle.listing.proofs.Printing.{left, fit_none, fit_not, fit_more}
+use Rattle.listing.proofs.Printing.{left}
 use Rattle.listing.proofs.lines.fit.Given as goal
 
 abbrev pub invariant-loop-k : goal.invariant-loop-k

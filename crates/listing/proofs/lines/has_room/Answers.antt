@@ -1,5 +1,4 @@
 use mathlib.Core.Path.{sym, ◌∙◌}
-use borrow.Author.Rules.{rules}
 use Rattle.listing.proofs.Printing.{room_none, room_head, room_fields}
 use Rattle.listing.proofs.lines.has_room.Goals as goal
 

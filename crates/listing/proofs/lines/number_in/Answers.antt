@@ -1,5 +1,4 @@
 use mathlib.Core.Path.{◌∙◌}
-use borrow.Author.Rules.{rules}
 use Rattle.listing.proofs.Scanning.{in_hex, in_decimal}
 use Rattle.listing.proofs.lines.number_in.Goals as goal
 

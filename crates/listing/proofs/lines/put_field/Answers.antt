@@ -1,4 +1,3 @@
-use borrow.Author.Rules.{rules}
 use Rattle.listing.proofs.Printing.{field_hex, field_decimal, tab_then}
 use Rattle.listing.proofs.lines.put_field.Goals as goal
 

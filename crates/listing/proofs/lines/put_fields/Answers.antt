@@ -1,10 +1,8 @@
 -- Printing all fields is, at each turn, printing those that are left at the place.
-use Prim.Native.Nat.{◌+◌, ◌-◌, ◌≤◌}
-use mathlib.Core.Path.{◌≡◌, refl, sym, ap, ◌∙◌}
+use Prim.Native.Nat.{◌+◌, ◌≤◌}
+use mathlib.Core.Path.{◌≡◌, sym, ap, ◌∙◌}
 use native.Mathlib.Omega.{arith}
-use borrow.Author.Rules.{rules}
 use lib.ListN.{length}
-use Rattle.fields.specs.Write.{put_at}
 use Rattle.listing.proofs.Printing.{left, left_none, length_one, put_one, put_last}
 use Rattle.listing.proofs.lines.put_fields.Goals as goal
 
@@ -20,9 +18,6 @@ loop-k-preserved c =
     let one = put_one a.kinds.now a.values.now c.loop-k.out c.loop-k.place c.loop-k.k c.loop-k-test.true room
     (rw c.value_at.ensures at c.put_field-place.ensures.1) (rw c.value_at.ensures at c.put_field-place.ensures.0) in
     (omega arith, one.0 ∙ c.loop-k.invariant.1, one.1 ∙ c.loop-k.invariant.2, c.loop-k.invariant.3 ∙ one.2)
-
-pub same-length : goal.same-length
-same-length c = c.loop-k.invariant.2
 
 pub returns : goal.returns
 returns c =

@@ -1,6 +1,5 @@
 use mathlib.Core.Path.{ap, sym, ◌∙◌}
 use native.Mathlib.Omega.{arith}
-use borrow.Author.Rules.{rules}
 use Rattle.fields.specs.declared.Number.{Number}
 use Rattle.listing.specs.Steps.{ends}
 use Rattle.listing.proofs.Scanning.{no_more, no_tab, read}

@@ -1,25 +1,21 @@
 -- What the line says is, at each turn, the values read so far and then what the fields behind them say.
 use mathlib.Core.Path.{◌≡◌, refl, sym, ◌∙◌}
-use Prim.Native.Nat.{◌-◌, ◌≤◌, ◌<◌}
+use Prim.Native.Nat.{◌<◌}
 use native.Mathlib.Omega.{arith}
-use borrow.Author.Rules.{rules}
-use borrow.Author.Tests.{not-true, not-false}
-use lib.ListN.{length, take, drop, length-set}
+use lib.ListN.{length, length-set}
 use lib.Seq.{take-length}
-use Rattle.listing.specs.Lines.{fields_of, line_of}
-use Rattle.listing.specs.Steps.{ahead}
 use Rattle.listing.proofs.Scanning.{other_line, begun, bad_line, ahead_none, turn_none, turn_one, last}
 use Rattle.listing.proofs.lines.read_line.Goals as goal
 
 pub returns-then-not-begins : goal.returns-then-not-begins
 returns-then-not-begins c =
     let a = c.args in
-    bad_line _ _ ∙ other_line a.letter a.kinds.now a.text.now (rw take-length at (sym c.begins.ensures ∙ not-true _ c.if-not-begins.true))
+    bad_line _ _ ∙ other_line a.letter a.kinds.now a.text.now (rw take-length at (sym c.begins.ensures ∙ c.if-not-begins.true))
 
 pub loop-k-init : goal.loop-k-init
 loop-k-init c =
     let a = c.args in
-    let b = begun a.letter a.kinds.now a.text.now (rw take-length at (sym c.begins.ensures ∙ not-false _ c.if-not-begins.false)) in
+    let b = begun a.letter a.kinds.now a.text.now (rw take-length at (sym c.begins.ensures ∙ c.if-not-begins.false)) in
     (omega arith, refl, b.0 ∙ sym (ahead_none _))
 
 pub returns-in_default : goal.returns-in_default

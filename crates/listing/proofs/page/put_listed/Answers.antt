@@ -1,5 +1,4 @@
 use native.Mathlib.Omega.{arith}
-use borrow.Author.Rules.{rules}
 use Rattle.laws.specs.Store.{store}
 use Rattle.listing.specs.Bench.{ok_text}
 use Rattle.listing.proofs.Paging.{listed_put}
@@ -10,5 +9,5 @@ unfolding ok_text
 returns c =
     let a = c.args in
     let few = c.requires.0.few in
-    listed_put a.ids.now (store a.nf.now a.nw.now) _ a.page.now c.put_nodes-p.new.0 c.put_nodes-p.result c.requires.1 (omega arith) c.put_nodes-p.ensures.0 c.put_nodes-p.ensures.1
+    listed_put a.ids.now (store a.nf.now a.nw.now) _ a.page.now c.put_nodes-p.new.page c.put_nodes-p.result c.requires.1 (omega arith) c.put_nodes-p.ensures.0 c.put_nodes-p.ensures.1
     c.put_line.ensures.0 c.put_line.ensures.1

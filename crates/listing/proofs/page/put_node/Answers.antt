@@ -1,5 +1,4 @@
 use native.Mathlib.Omega.{arith}
-use borrow.Author.Rules.{rules}
 use Rattle.listing.proofs.Paging.{node_values_lem, node_put}
 use Rattle.listing.proofs.page.put_node.Goals as goal
 
@@ -8,5 +7,5 @@ returns c =
     let g = c.args in
     let values = node_values_lem g.ids.now g.k g.n c.cell_of_region.ensures c.unpack-cell.ensures c.bits.ensures.0 c.bits-2.ensures.0 c.bits-3.ensures.0 c.bits-4.ensures.0 c.bits-5.ensures.0 in
     node_put g.ids.now g.k g.n g.page.now g.at c.requires.1 values
-    (omega (arith, c.struct_known-1.given), (omega (arith, c.struct_known-2-1.given), (c.bits.ensures.1, (c.bits-2.ensures.1, (c.bits-3.ensures.1, (c.bits-4.ensures.1, (c.bits-5.ensures.1, tt)))))))
+    (omega arith, (omega arith, (c.bits.ensures.1, (c.bits-2.ensures.1, (c.bits-3.ensures.1, (c.bits-4.ensures.1, (c.bits-5.ensures.1, tt)))))))
     c.put_line.ensures.0 c.put_line.ensures.1

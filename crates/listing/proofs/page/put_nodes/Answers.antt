@@ -1,14 +1,12 @@
 -- With the nodes below k looked at, the page has a line for each of them that is shown.
-use Prim.Native.Nat.{◌+◌, ◌-◌, ◌*◌, ◌≤◌}
+use Prim.Native.Nat.{◌+◌, ◌*◌, ◌≤◌}
 use mathlib.Core.Path.{◌≡◌, refl, ap, ◌∙◌}
 use native.Mathlib.Omega.{arith}
 use lib.ListN.{length}
-use Rattle.fields.specs.Write.{put_at}
 use Rattle.fields.proofs.Writing.{length_put}
 use Rattle.laws.specs.Store.{store}
 use Rattle.grid.specs.Nodes.{region_cells}
 use Rattle.listing.specs.Bench.{shown, nodes_text}
-use Rattle.listing.specs.Steps.{Printed}
 use Rattle.listing.proofs.Paging.{printed_none, page_none, printed_more, page_more}
 use Rattle.listing.proofs.page.put_nodes.Goals as goal
 

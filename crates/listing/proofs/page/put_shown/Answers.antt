@@ -1,5 +1,4 @@
 use native.Mathlib.Omega.{arith}
-use borrow.Author.Rules.{rules}
 use Rattle.laws.specs.Store.{store}
 use Rattle.listing.proofs.Paging.{grown, stayed}
 use Rattle.listing.proofs.page.put_shown.Goals as goal

@@ -1,4 +1,3 @@
-use borrow.Author.Rules.{rules}
 use Rattle.listing.proofs.reader.advance.Goals as goal
 
 pub returns : goal.returns

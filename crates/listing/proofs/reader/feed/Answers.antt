@@ -1,10 +1,6 @@
 -- What feeding the text leaves is, at each turn, what feeding the rest of it to the present state does.
-use mathlib.Core.Path.{◌≡◌, refl, sym, ◌∙◌}
-use Prim.Native.Nat.{◌-◌, ◌≤◌}
+use mathlib.Core.Path.{refl, sym, ◌∙◌}
 use native.Mathlib.Omega.{arith}
-use borrow.Author.Rules.{rules}
-use lib.ListN.{length, drop}
-use Rattle.listing.specs.Feeding.{state, fed}
 use Rattle.listing.proofs.Taking.{fed_on, fed_whole}
 use Rattle.listing.proofs.reader.feed.Goals as goal
 

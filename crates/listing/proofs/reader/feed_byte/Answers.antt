@@ -1,5 +1,4 @@
 use mathlib.Core.Path.{◌∙◌}
-use borrow.Author.Rules.{rules}
 use borrow.Author.Tests.{not-true, not-false}
 use Rattle.listing.proofs.Taking.{unread_on, line_fed, byte_fed}
 use Rattle.listing.proofs.reader.feed_byte.Goals as goal

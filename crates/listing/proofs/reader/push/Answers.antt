@@ -1,12 +1,11 @@
-use borrow.Author.Rules.{rules}
 use borrow.Author.Tests.{lt-ltb, le-ltb}
 use Rattle.listing.specs.Feeding.{pushed}
 use Rattle.listing.proofs.reader.push.Goals as goal
 
 pub returns-then-have-ge-LINE_BYTES : goal.returns-then-have-ge-LINE_BYTES
 unfolding pushed
-returns-then-have-ge-LINE_BYTES c = rw (le-ltb _ _ c.if-have-ge-LINE_BYTES.true)
+returns-then-have-ge-LINE_BYTES c ids ranges particles = rw (le-ltb _ _ c.if-have-ge-LINE_BYTES.true)
 
 pub returns : goal.returns
 unfolding pushed
-returns c = rw (lt-ltb _ _ c.if-have-ge-LINE_BYTES.false)
+returns c ids ranges particles = rw (lt-ltb _ _ c.if-have-ge-LINE_BYTES.false)

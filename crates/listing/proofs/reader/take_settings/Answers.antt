@@ -1,8 +1,7 @@
-use borrow.Author.Rules.{rules}
 use Rattle.listing.proofs.reader.take_settings.Goals as goal
 
 pub returns-in_default : goal.returns-in_default
-returns-in_default c = rw c.in_default.is (c.broken.ensures m)
+returns-in_default c m = rw c.in_default.is (c.broken.ensures m)
 
 pub returns : goal.returns
-returns c = rw (c.in-AreSettings.is, c.advance.ensures)
+returns c m = rw (c.in-AreSettings.is, c.advance.ensures)

@@ -1,7 +1,6 @@
 use mathlib.Core.Path.{refl, ap}
 use mathlib.Core.List.{[], ◌∷◌}
 use Prim.Native.Nat.{ℕ}
-use borrow.Author.Rules.{rules}
 use Rattle.listing.proofs.Taking.{then, by_numbers}
 use Rattle.listing.proofs.records.particle.Goals as goal
 

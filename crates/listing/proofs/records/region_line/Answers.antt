@@ -1,5 +1,4 @@
 use mathlib.Core.Path.{ap, sym}
-use borrow.Author.Rules.{rules}
 use borrow.Author.Tests.{not-true, not-false}
 use Rattle.listing.specs.Feeding.{region_read}
 use Rattle.listing.proofs.Taking.{bad, region_is}

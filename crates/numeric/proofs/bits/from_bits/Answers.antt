@@ -1,5 +1,5 @@
 -- `numeric::bits::from_bits` meets its contract: the code makes the NaN itself, and no other pattern is a NaN's.
-use Rattle.std.proofs.Common.{◌%◌, sym, ◌∙◌, arith, rules, le-ltb, lt-ltb}
+use Rattle.std.proofs.Common.{◌%◌, sym, ◌∙◌, arith, le-ltb, lt-ltb}
 use lib.Ieee.{binary32}
 use lib.Ieee.Bits.{nan_bits_above}
 use Rattle.numeric.proofs.Patterns.{no, zero_by_zero, nan_pattern}

@@ -1,5 +1,4 @@
 -- `numeric::bits::to_bits` meets its contract: the code writes the NaN's pattern itself.
-use Rattle.std.proofs.Common.{rules}
 use lib.Ieee.{to_bits}
 use Rattle.numeric.proofs.Patterns.{no, is_nan_lem, no_nan}
 use Rattle.numeric.proofs.bits.to_bits.Goals as goal

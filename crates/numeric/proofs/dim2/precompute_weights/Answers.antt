@@ -1,5 +1,4 @@
 -- `numeric::dim2::precompute_weights` meets its contract: an axis at a time.
-use Rattle.std.proofs.Common.{rules}
 use Rattle.numeric.specs.Kernel.{precompute_weights}
 use Rattle.numeric.proofs.dim2.precompute_weights.Goals as goal
 

@@ -1,5 +1,4 @@
 -- `numeric::dim2::stencil` meets its contract: by the vector between the points.
-use Rattle.std.proofs.Common.{rules}
 use Rattle.numeric.specs.Kernel.{stencil}
 use Rattle.numeric.proofs.dim2.stencil.Goals as goal
 

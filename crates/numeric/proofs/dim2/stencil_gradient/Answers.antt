@@ -1,5 +1,4 @@
 -- `numeric::dim2::stencil_gradient` meets its contract: by the vector between the points.
-use Rattle.std.proofs.Common.{rules}
 use Rattle.numeric.specs.Kernel.{stencil_gradient}
 use Rattle.numeric.proofs.dim2.stencil_gradient.Goals as goal
 

@@ -1,5 +1,4 @@
 -- `numeric::dim2::stencil_gradient_with_dir` meets its contract: an axis at a time.
-use Rattle.std.proofs.Common.{rules}
 use Rattle.numeric.specs.Kernel.{stencil_gradient_with_dir}
 use Rattle.numeric.proofs.dim2.stencil_gradient_with_dir.Goals as goal
 

@@ -1,6 +1,7 @@
 -- `numeric::inner::nearest_whole` meets its contract: twice the number without its fraction, halved up.
-use Rattle.std.proofs.Common.{◌+◌, ◌-◌, ◌/◌, ◌%◌, ◌^◌, ◌<◌, arith, lit≤, rules}
+use Rattle.std.proofs.Common.{◌+◌, ◌-◌, ◌/◌, ◌%◌, ◌^◌, ◌<◌, arith, lit≤}
 use Rattle.numeric.proofs.Whole.{small_field, by_shift, shift_lt}
+use Rattle.numeric.proofs.inner.nearest_whole.Goals.{Else-field-lt126}
 use Rattle.numeric.proofs.inner.nearest_whole.Goals as goal
 
 -- The shift leaves 24 digits at most.

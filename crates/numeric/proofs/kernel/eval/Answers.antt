@@ -1,5 +1,4 @@
 -- `numeric::kernel::eval` meets its contract: the code tests in the definition's order.
-use Rattle.std.proofs.Common.{rules}
 use Rattle.numeric.specs.Kernel.{eval}
 use Rattle.numeric.proofs.kernel.eval.Goals as goal
 

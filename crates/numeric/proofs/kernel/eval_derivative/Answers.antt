@@ -1,5 +1,4 @@
 -- `numeric::kernel::eval_derivative` meets its contract: the code tests in the definition's order.
-use Rattle.std.proofs.Common.{rules}
 use Rattle.numeric.specs.Kernel.{eval_derivative}
 use Rattle.numeric.proofs.kernel.eval_derivative.Goals as goal
 

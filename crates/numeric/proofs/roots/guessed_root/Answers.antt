@@ -1,5 +1,5 @@
 -- `numeric::roots::guessed_root` is safe: neither pattern is a NaN's.
-use Rattle.std.proofs.Common.{arith, rules}
+use Rattle.std.proofs.Common.{arith}
 use Rattle.numeric.proofs.Patterns.{no, no_nan_bits}
 use Rattle.numeric.proofs.roots.guessed_root.Goals as goal
 

@@ -1,5 +1,5 @@
 -- `numeric::roots::halved_near` meets its contract: what is left of n is set against the middle.
-use Rattle.std.proofs.Common.{arith, rules}
+use Rattle.std.proofs.Common.{arith}
 use Rattle.numeric.proofs.Squares.{next_square, root_ge}
 use Rattle.numeric.proofs.roots.halved_near.Goals as goal
 

@@ -1,5 +1,5 @@
 -- `numeric::roots::halved_root` meets its contract: the root is at least lo and below hi, and the loop halves the gap.
-use Rattle.std.proofs.Common.{◌≡◌, ℕ, ◌+◌, ◌-◌, ◌*◌, ◌/◌, ◌<◌, ◌≤◌, subst, arith}
+use Rattle.std.proofs.Common.{◌≡◌, ℕ, ◌+◌, ◌-◌, ◌*◌, ◌/◌, ◌<◌, subst, arith}
 use Rattle.numeric.proofs.Squares.{square_fits}
 use Rattle.numeric.proofs.roots.halved_root.Goals as goal
 

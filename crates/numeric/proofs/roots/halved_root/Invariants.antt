@@ -1,6 +1,5 @@
 -- `numeric::roots::halved_root` meets its contract: the root is at least lo and below hi, and the loop halves the gap.
-use Rattle.std.proofs.Common.{◌≡◌, ℕ, ◌+◌, ◌-◌, ◌*◌, ◌/◌, ◌<◌, ◌≤◌, subst, arith}
-use Rattle.numeric.proofs.Squares.{square_fits}
+use Rattle.std.proofs.Common.{◌-◌, ◌*◌, ◌<◌, ◌≤◌}
 use Rattle.numeric.proofs.roots.halved_root.Given as goal
 
 abbrev pub invariant-loop-hi : goal.invariant-loop-hi

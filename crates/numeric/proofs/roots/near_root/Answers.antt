@@ -1,5 +1,5 @@
 -- `numeric::roots::near_root` meets its contract: the guess is tested on both sides, and what is handed on is tested there.
-use Rattle.std.proofs.Common.{◌+◌, ◌%◌, arith, rules}
+use Rattle.std.proofs.Common.{◌+◌, ◌%◌, arith}
 use Rattle.numeric.proofs.Squares.{square_fits}
 use Rattle.numeric.proofs.roots.near_root.Goals as goal
 

@@ -3,6 +3,7 @@ use Rattle.std.proofs.Common.{T, sym, ◌∙◌, subst}
 use lib.Ieee.{binary32, fits}
 use Rattle.numeric.proofs.Patterns.{no, no_nan, no_nan_bits, zero_by_zero, below_zero}
 use Rattle.numeric.proofs.RootLaws.{of_nan, of_zero, of_negative, of_infinity, some_bits, by_bits}
+use Rattle.numeric.proofs.roots.root.Goals.{Start}
 use Rattle.numeric.proofs.roots.root.Goals as goal
 
 held : (c : Start) → T (fits binary32 c.args.x)

@@ -1,5 +1,5 @@
 -- `numeric::roots::root_pattern` meets its contract: the exponent is halved, and the digits are shifted by one place fewer where it is odd.
-use Rattle.std.proofs.Common.{ℕ, ◌+◌, ◌*◌, ◌/◌, ◌%◌, ◌^◌, sym, ap, ◌∙◌, arith, lit≤, rules}
+use Rattle.std.proofs.Common.{ℕ, ◌+◌, ◌*◌, ◌/◌, ◌%◌, ◌^◌, sym, ap, ◌∙◌, arith, lit≤}
 use Rattle.numeric.specs.Bits.{field_units}
 use Rattle.numeric.specs.Root.{units_root}
 use Rattle.numeric.proofs.RootLaws.{enough, subnormal, normal_field, shifted}

@@ -1,7 +1,5 @@
 -- `numeric::roots::scaled_root` meets its contract: the loop keeps n * 4 ^ k, and leaves n with 47 or 48 digits.
-use Rattle.std.proofs.Common.{◌≡◌, ◌-◌, ◌*◌, ◌^◌, ◌<◌, ◌≤◌, ap, ◌∙◌, arith}
-use Rattle.numeric.specs.Root.{units_root}
-use Rattle.numeric.proofs.RootLaws.{some_left, quarter}
+use Rattle.std.proofs.Common.{◌≡◌, ◌-◌, ◌*◌, ◌^◌, ◌<◌, ◌≤◌}
 use Rattle.numeric.proofs.roots.scaled_root.Given as goal
 
 abbrev pub invariant-loop-m : goal.invariant-loop-m

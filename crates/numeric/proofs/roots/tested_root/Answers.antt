@@ -1,5 +1,5 @@
 -- `numeric::roots::tested_root` meets its contract: r is tested on both sides.
-use Rattle.std.proofs.Common.{arith, rules}
+use Rattle.std.proofs.Common.{arith}
 use Rattle.numeric.proofs.Squares.{square_fits}
 use Rattle.numeric.proofs.roots.tested_root.Goals as goal
 

@@ -1,14 +1,15 @@
 -- `numeric::rounding::round` meets its contract: below 2 ^ 23 the nearest whole number with x's sign, and x itself from there on.
-use Rattle.std.proofs.Common.{◌≡◌, ◌^◌, Bool, true, false, leb, sym, ◌∙◌, arith, le→leb, rules, le-leb}
+use Rattle.std.proofs.Common.{◌≡◌, ◌^◌, Bool, true, false, leb, sym, ◌∙◌, arith, le→leb, le-leb}
 use borrow.Author.Tests.{lt-leb}
 use lib.Ieee.{binary32, of_int, round, in_float}
 use Rattle.numeric.specs.Round.{round_away}
 use Rattle.numeric.proofs.Patterns.{yes, no, bits, is_nan_lem, no_nan, neg_round}
 use Rattle.numeric.proofs.Whole.{from_two_to_23, below_two_to_23}
+use Rattle.numeric.proofs.rounding.round.Goals.{After-nearest_whole-y}
 use Rattle.numeric.proofs.rounding.round.Goals as goal
 
 -- The whole number with x's sign is the answer.
-answer : (c : After-nearest_whole-y) (s : Bool) → leb 2147483648 (bits c.before.before.before.args.x) ≡ s → round binary32 s c.nearest_whole_lem.result 1 ≡ round_away c.before.before.before.args.x
+answer : (c : After-nearest_whole-y) (s : Bool) → leb 2147483648 (bits c.args.x) ≡ s → round binary32 s c.nearest_whole-y.result 1 ≡ round_away c.args.x
 answer c s e =
     sym (rw (below_two_to_23 c.args.x (yes c.well_formed.0.1) (omega arith), e, c.nearest_whole-y.ensures.0))
 

@@ -14,7 +14,7 @@ overflow_cast-result c = omega (arith, c.truncating_f32_to_u64.ensures, (below_l
 
 pub truncating_f32_to_u64-requires : goal.truncating_f32_to_u64-requires
 unfolding of_bits neg
-truncating_f32_to_u64-requires c = record { lower_bound = yes c.if-x-2.true; upper_bound = above_minus_one _ c.if-x.false c.if-x-2.true; }
+truncating_f32_to_u64-requires c = record { lower_bound = yes c.if-x-2.true; upper_bound = above_minus_one _ c.if-x.false c.if-x-2.true }
 
 pub returns-then-x : goal.returns-then-x
 returns-then-x c = from_limit _ c.if-x.true

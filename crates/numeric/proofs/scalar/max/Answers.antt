@@ -1,19 +1,20 @@
 -- `numeric::scalar::max` meets its contract: the code tests in the definition's order.
-use Rattle.std.proofs.Common.{◌≡◌, false, cond, ◌&&◌, ⊎_elim}
+use Rattle.std.proofs.Common.{◌≡◌, false, cond, ◌&&◌}
 use lib.Ieee.{is_nan, lt, eq}
 use Rattle.numeric.specs.Bits.{none}
 use Rattle.numeric.specs.Scalar.{maximum}
 use Rattle.numeric.proofs.Patterns.{is_nan_lem, no_nan}
+use Rattle.numeric.proofs.scalar.max.Goals.{Else-b, Joined-a-2, then-a-2+else-b-2, else-a-2}
 use Rattle.numeric.proofs.scalar.max.Goals as goal
 
 -- Of two numbers only the zeros and the order are left.
-numbers : (c : Else-b) → let a = c.before.before.args in maximum a.a a.b ≡ cond (eq a.a none && eq a.b none) none (cond (lt a.a a.b) a.b a.a)
+numbers : (c : Else-b) → let a = c.args in maximum a.a a.b ≡ cond (eq a.a none && eq a.b none) none (cond (lt a.a a.b) a.b a.a)
 unfolding maximum
 numbers c = rw (no_nan _ c.if-a.false, no_nan _ c.if-b.false)
 
 -- Past both tests, not both are zeros.
-not_zeros : (c : Joined-a-2) → let a = c.before.before.before.args in (eq a.a none && eq a.b none) ≡ false
-not_zeros c = ⊎_elim (λ w. rw (w.0.taken, w.1.left)) (λ w. rw w.left) c.if-a-2.branch
+not_zeros : (c : Joined-a-2) → let a = c.args in (eq a.a none && eq a.b none) ≡ false
+not_zeros c = elim c.if-a-2.branch [ then-a-2+else-b-2 w ↦ rw (w.if-a-2.true, w.if-b-2.false) | else-a-2 w ↦ rw w.if-a-2.false ]
 
 pub returns-then-a : goal.returns-then-a
 unfolding maximum is_nan

@@ -4,6 +4,7 @@ use borrow.Author.Tests.{lt-leb}
 use Rattle.numeric.specs.Scalar.{signed, sign_of}
 use Rattle.numeric.proofs.Patterns.{yes, no, bits, is_nan_lem, no_nan, bits_negative}
 use Rattle.numeric.proofs.Signs.{sign_is}
+use Rattle.numeric.proofs.scalar.signum.Goals.{Else-x}
 use Rattle.numeric.proofs.scalar.signum.Goals as goal
 
 -- The sign is read off the pattern.

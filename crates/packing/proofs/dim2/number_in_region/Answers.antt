@@ -1,5 +1,5 @@
 -- `packing::dim2::number_in_region` meets its contract: 4 digits from 6 on.
-use Rattle.std.proofs.Common.{refl, rules}
+use Rattle.std.proofs.Common.{refl}
 use Rattle.packing.specs.Ids.{dim2}
 use Rattle.packing.proofs.Fields.{number_is}
 use Rattle.packing.proofs.Computed.{rows}

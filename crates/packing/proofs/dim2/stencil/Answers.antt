@@ -1,8 +1,8 @@
 -- `packing::dim2::stencil` meets its contract: after k turns the k first sums are there.
-use Rattle.std.proofs.Common.{◌-◌, refl, arith}
+use Rattle.std.proofs.Common.{refl, arith}
 use Rattle.packing.specs.Mask.{packed, place}
-use Rattle.packing.specs.Ids.{dim2, sum, packed_shifts, stencil_of}
-use Rattle.packing.proofs.Fill.{Filled, filled, filled_more, filled_all}
+use Rattle.packing.specs.Ids.{dim2, packed_shifts, stencil_of}
+use Rattle.packing.proofs.Fill.{filled, filled_more, filled_all}
 use Rattle.packing.proofs.dim2.stencil.Goals as goal
 
 pub loop-k-init : goal.loop-k-init

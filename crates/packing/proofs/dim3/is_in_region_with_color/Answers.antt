@@ -1,5 +1,5 @@
 -- `packing::dim3::is_in_region_with_color` meets its contract: the colour is the region's digits from 12 on, one for each axis.
-use Rattle.std.proofs.Common.{arith, rules}
+use Rattle.std.proofs.Common.{arith}
 use Rattle.packing.specs.Ids.{dim3, colour}
 use Rattle.packing.proofs.Fields.{out_of_range, in_range_lem}
 use Rattle.packing.proofs.dim3.is_in_region_with_color.Goals as goal

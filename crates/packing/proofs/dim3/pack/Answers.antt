@@ -1,5 +1,5 @@
 -- `packing::dim3::pack` meets its contract: each axis is put in its place.
-use Rattle.std.proofs.Common.{sym, ◌∙◌, ap₂, rules}
+use Rattle.std.proofs.Common.{sym, ◌∙◌, ap₂}
 use lib.Bits.{bit_or, or_zero_r}
 use Rattle.packing.specs.Mask.{packed}
 use Rattle.packing.specs.Ids.{dim3, packed_id}

@@ -1,5 +1,5 @@
 -- `packing::dim3::packed_add` meets its contract: each axis is summed.
-use Rattle.std.proofs.Common.{sym, ◌∙◌, ap₂, rules}
+use Rattle.std.proofs.Common.{sym, ◌∙◌, ap₂}
 use lib.Bits.{bit_or, or_zero_r}
 use Rattle.packing.specs.Mask.{axis_sum, bits, coords, packed, sums, sum_of}
 use Rattle.packing.specs.Ids.{dim3, sum}

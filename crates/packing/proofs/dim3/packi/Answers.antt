@@ -1,5 +1,5 @@
 -- `packing::dim3::packi` meets its contract, by what `pack` and `two_complement` say.
-use Rattle.std.proofs.Common.{◌∷◌, refl, ap, ◌∙◌, ap₂, rules}
+use Rattle.std.proofs.Common.{◌∷◌, refl, ap, ◌∙◌, ap₂}
 use Rattle.packing.specs.Ids.{dim3, packed_id}
 use Rattle.packing.proofs.Signed.{passed}
 use Rattle.packing.proofs.dim3.packi.Goals as goal

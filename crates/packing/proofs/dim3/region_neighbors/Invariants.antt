@@ -1,8 +1,7 @@
 -- `packing::dim3::region_neighbors` meets its contract: after k turns the k first sums are there.
-use Rattle.std.proofs.Common.{◌-◌, refl, arith}
-use Rattle.packing.specs.Mask.{packed, place}
-use Rattle.packing.specs.Ids.{dim3, sum, packed_region_shifts, region_neighbours}
-use Rattle.packing.proofs.Fill.{Filled, filled, filled_more, filled_all}
+use Rattle.std.proofs.Common.{◌-◌}
+use Rattle.packing.specs.Ids.{dim3, sum, packed_region_shifts}
+use Rattle.packing.proofs.Fill.{Filled}
 use Rattle.packing.proofs.dim3.region_neighbors.Given as goal
 
 abbrev pub invariant-loop-k : goal.invariant-loop-k

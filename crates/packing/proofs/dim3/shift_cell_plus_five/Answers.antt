@@ -1,5 +1,4 @@
 -- `packing::dim3::shift_cell_plus_five` meets its contract: antt computes the shift.
-use Rattle.std.proofs.Common.{rules}
 use Rattle.packing.specs.Mask.{packed, place}
 use Rattle.packing.specs.Ids.{dim3, diagonal}
 use Rattle.packing.proofs.dim3.shift_cell_plus_five.Goals as goal

@@ -12,6 +12,7 @@ use Rattle.cells.specs.Stencil.{IsCoordinate}
 use Rattle.grid.proofs.Lengths.{and_split}
 use Rattle.particles.specs.Table.{on_axis, OnGrid}
 use Rattle.particles.specs.declared.particle.Particle.{Particle}
+
 use Rattle.particles.proofs.inner.checks.does_particle_stand.Goals as goal
 
 neither : (a b : Bool) → (a || b) ≡ false → (a ≡ false) × (b ≡ false)

@@ -1,0 +1,13 @@
+-- `boundary::ids::mk_packi2` meets its contract, by what the function of packing says.
+use mathlib.Core.Path.{refl, ap, ap₂, ◌∙◌}
+use mathlib.Core.List.{◌∷◌}
+use borrow.Author.Rules.{rules}
+use Rattle.packing.specs.Ids.{dim2, packed_id, complement}
+use Rattle.boundary.proofs.Crossing.{passed}
+use Rattle.boundary.proofs.ids.mk_packi2.Goals as goal
+
+pub returns : goal.returns
+returns c =
+    c.packi.ensures
+    ∙ ap (packed_id dim2)
+    (ap₂ ◌∷◌ (ap complement (passed c.ranges.x)) (ap₂ ◌∷◌ (ap complement (passed c.ranges.y)) refl))
