@@ -1,5 +1,5 @@
 -- `cells::entry` meets its contract: one entry is left as it is.
-use Rattle.std.proofs.Common.{arith, eq-eqb, ne_eqb}
+use Rattle.std.proofs.Common.{eq-eqb, ne_eqb}
 use Rattle.cells.specs.Lookup.{searched, left, narrowed, halved}
 use Rattle.cells.proofs.entry.Goals as goal
 

@@ -1,5 +1,4 @@
 -- `cells::lookup` meets its contract: the search of the whole list.
-use Rattle.std.proofs.Common.{rules}
 use Rattle.cells.specs.Lookup.{lookup}
 use Rattle.cells.proofs.lookup.Goals as goal
 

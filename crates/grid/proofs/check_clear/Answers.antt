@@ -1,6 +1,6 @@
 -- `grid::check_clear` meets its contract.
-use borrow.Author.Rules.{rules}
 use Rattle.grid.specs.Clear.{clear_check}
+use native.Mathlib.Omega.{arith}
 use Rattle.grid.proofs.Answers.{stops, unless_end}
 use Rattle.grid.proofs.check_clear.Goals as goal
 
@@ -11,7 +11,7 @@ returns-then-not-ids-regions c = rw (← c.holds_nodes.ensures, c.if-not-ids-reg
 pub returns-in_default : goal.returns-in_default
 unfolding clear_check
 returns-in_default c =
-    rw (← c.holds_nodes.ensures, c.if-not-ids-regions.false, ← c.check_limits-a.ensures, stops _ c.in_default.keys2)
+    rw (← c.holds_nodes.ensures, c.if-not-ids-regions.false, ← c.check_limits-a.ensures, stops c.check_limits-a.result (omega arith))
 
 pub returns : goal.returns
 unfolding clear_check

@@ -1,14 +1,9 @@
 -- `grid::clear_region` meets its contract: c nodes are empty.
 use mathlib.Core.Path.{◌≡◌, refl, ◌∙◌}
-use Prim.Native.Nat.{◌+◌, ◌-◌, ◌≤◌}
 use native.Mathlib.Omega.{arith}
-use borrow.Author.Rules.{rules}
-use lib.ListN.{length}
-use Rattle.laws.specs.Store.{store}
-use Rattle.laws.specs.Hits.{run, gather}
 use Rattle.laws.proofs.Hits.{run_none, run_more}
 use Rattle.grid.specs.Nodes.{nodes, region_cells}
-use Rattle.grid.specs.Clear.{emptied, cleared_region}
+use Rattle.grid.specs.Clear.{cleared_region}
 use Rattle.grid.proofs.Emptying.{one}
 use Rattle.grid.proofs.clear_region.Goals as goal
 

@@ -1,21 +1,12 @@
 -- `grid::clear_regions` meets its contract: the nodes of all regions but those left are empty.
 use mathlib.Core.Path.{◌≡◌, refl, ◌∙◌}
-use mathlib.Core.List.{List}
-use Prim.Native.Nat.{ℕ, ◌+◌, ◌*◌, ◌-◌, ◌≤◌}
+use Prim.Native.Nat.{◌-◌}
 use native.Mathlib.Omega.{arith}
-use borrow.Author.Rules.{rules}
-use lib.ListN.{length}
-use Rattle.laws.specs.Store.{store}
-use Rattle.laws.specs.Hits.{Hit, run, gather}
 use Rattle.laws.proofs.Hits.{run_none, run_left}
-use Rattle.grid.specs.Nodes.{nodes, region_cells}
-use Rattle.grid.specs.Clear.{emptied, cleared_region, cleared}
-use Rattle.grid.specs.declared.grid_node.GridNode.{GridNode}
+use Rattle.grid.specs.Nodes.{nodes}
+use Rattle.grid.specs.Clear.{cleared_region, cleared}
+use Rattle.grid.proofs.clear_regions.Invariants.{hits}
 use Rattle.grid.proofs.clear_regions.Goals as goal
-
--- what clearing region r does
-abbrev hits : ℕ → List (Hit GridNode)
-hits r = gather (λ c. emptied (r * region_cells + c)) region_cells
 
 pub loop-left-init : goal.loop-left-init
 loop-left-init c = let n = c.args.regions in let e : n - n ≡ 0 = omega arith in (omega arith, refl, refl, rw e (run_none nodes hits _))

@@ -1,7 +1,6 @@
 -- `solver::check_in_order` meets its contract: the order's length, then the lists, the order, the particles.
 use mathlib.Core.Path.{sym, ◌∙◌}
 use native.Mathlib.Omega.{arith}
-use borrow.Author.Rules.{rules}
 use Rattle.numeric.specs.Axes.{axes}
 use Rattle.laws.specs.Store.{store}
 use Rattle.grid.specs.Table.{limits}
@@ -19,26 +18,26 @@ pub returns-in_default : goal.returns-in_default
 returns-in_default c =
     let g = c.args in
     rw (
-      in_steps g.order.now g.cell_width g.dt (axes g.gravity) g.regions g.ids.now g.ranges.now g.particles (store g.pf.now g.pw.now) g.nf g.nw (omega (arith, c.if-order-regions.left)),
+      in_steps g.order.now g.cell_width g.dt (axes g.gravity) g.regions g.ids.now g.ranges.now g.particles (store g.pf.now g.pw.now) g.nf g.nw c.if-order-regions.false,
       ← c.is_width.ensures,
       ← c.is_step.ensures,
       ← c.is_finite_vector.ensures,
       ← c.check_lists-a.ensures,
     )
-    (stays _ _ (stops c.check_lists-a.result c.in_default.keys2))
+    (stays _ _ (stops c.check_lists-a.result (omega arith)))
 
 pub returns-in_default-b : goal.returns-in_default-b
 returns-in_default-b c =
     let g = c.args in
     rw (
-      in_steps g.order.now g.cell_width g.dt (axes g.gravity) g.regions g.ids.now g.ranges.now g.particles (store g.pf.now g.pw.now) g.nf g.nw (omega (arith, c.if-order-regions.left)),
+      in_steps g.order.now g.cell_width g.dt (axes g.gravity) g.regions g.ids.now g.ranges.now g.particles (store g.pf.now g.pw.now) g.nf g.nw c.if-order-regions.false,
       ← c.is_width.ensures,
       ← c.is_step.ensures,
       ← c.is_finite_vector.ensures,
       ← c.check_lists-a.ensures,
       ← c.check_order-b.ensures,
     )
-    (stays _ _ (stops c.check_order-b.result c.in_default-b.keys2) ∙ passes _ _ c.in-Done.is)
+    (stays _ _ (stops c.check_order-b.result (omega arith)) ∙ passes _ _ c.in-Done.is)
 
 pub check_particles-requires : goal.check_particles-requires
 check_particles-requires c =
@@ -50,7 +49,7 @@ pub returns : goal.returns
 returns c =
     let g = c.args in
     rw (
-      in_steps g.order.now g.cell_width g.dt (axes g.gravity) g.regions g.ids.now g.ranges.now g.particles (store g.pf.now g.pw.now) g.nf g.nw (omega (arith, c.if-order-regions.left)),
+      in_steps g.order.now g.cell_width g.dt (axes g.gravity) g.regions g.ids.now g.ranges.now g.particles (store g.pf.now g.pw.now) g.nf g.nw c.if-order-regions.false,
       ← c.is_width.ensures,
       ← c.is_step.ensures,
       ← c.is_finite_vector.ensures,

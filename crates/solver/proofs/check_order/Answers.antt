@@ -1,19 +1,12 @@
 -- `solver::check_order` meets its contract: before entry i none is out of turn.
 use mathlib.Core.Path.{◌≡◌, sym, ◌∙◌}
-use mathlib.Core.List.{List}
-use Prim.Native.Nat.{ℕ, ◌-◌, ◌≤◌}
+use Prim.Native.Nat.{◌-◌}
 use native.Mathlib.Omega.{arith}
-use borrow.Author.Rules.{rules}
 use lib.ListN.{length}
-use Rattle.grid.specs.Answers.{refuse, first_of}
-use Rattle.grid.specs.declared.Answer.{Answer}
 use Rattle.grid.specs.declared.Rule.TheVariants.{Code}
 use Rattle.grid.proofs.Answers.{stop_at, go_on, none_left}
 use Rattle.solver.specs.Order.{out_of_turn, turns}
 use Rattle.solver.proofs.check_order.Goals as goal
-
-abbrev judge : List ℕ → List ℕ → ℕ → Answer
-judge ids order i = refuse (out_of_turn ids order i) Code i
 
 pub loop-k-init : goal.loop-k-init
 loop-k-init c = (omega arith, let e : length c.args.order.now - 0 ≡ length c.args.order.now = omega arith in rw e)

@@ -1,16 +1,16 @@
 -- `solver::check_order` meets its contract: before entry i none is out of turn.
-use mathlib.Core.Path.{◌≡◌, sym, ◌∙◌}
+use mathlib.Core.Path.{◌≡◌}
 use mathlib.Core.List.{List}
 use Prim.Native.Nat.{ℕ, ◌-◌, ◌≤◌}
-use native.Mathlib.Omega.{arith}
-use borrow.Author.Rules.{rules}
 use lib.ListN.{length}
 use Rattle.grid.specs.Answers.{refuse, first_of}
 use Rattle.grid.specs.declared.Answer.{Answer}
 use Rattle.grid.specs.declared.Rule.TheVariants.{Code}
-use Rattle.grid.proofs.Answers.{stop_at, go_on, none_left}
-use Rattle.solver.specs.Order.{out_of_turn, turns}
+use Rattle.solver.specs.Order.{out_of_turn}
 use Rattle.solver.proofs.check_order.Given as goal
+
+abbrev pub judge : List ℕ → List ℕ → ℕ → Answer
+judge ids order i = refuse (out_of_turn ids order i) Code i
 
 abbrev pub invariant-loop-k : goal.invariant-loop-k
 invariant-loop-k l = (l.k ≤ length l.order) × (first_of (judge l.ids l.order) 0 (length l.order) ≡ first_of (judge l.ids l.order) l.k (length l.order - l.k))

@@ -1,6 +1,5 @@
 -- `solver::color_at` meets its contract: in each branch.
 use mathlib.Core.Path.{◌∙◌}
-use borrow.Author.Rules.{rules}
 use lib.ListN.{get_or-eq_default}
 use Rattle.solver.proofs.color_at.Goals as goal
 

@@ -1,13 +1,7 @@
 -- `solver::is_repeated` meets its contract: the entry stands at no place from left to i.
-use mathlib.Core.Path.{◌≡◌, refl, sym, ◌∙◌}
-use mathlib.Core.Bool.{◌||◌}
-use mathlib.Core.List.{List}
-use Prim.Native.Nat.{ℕ, zero, suc, ◌-◌, ◌<◌, ◌≤◌}
-use native.Mathlib.Omega.{arith}
-use borrow.Author.Rules.{rules}
-use borrow.Author.Tests.{eq-eqb, ne_eqb}
-use lib.Dec.{eqb}
-use Rattle.solver.specs.Order.{place_at, repeated}
+use mathlib.Core.Path.{◌≡◌}
+use Prim.Native.Nat.{◌≤◌}
+use Rattle.solver.specs.Order.{repeated}
 use Rattle.solver.proofs.is_repeated.Given as goal
 
 abbrev pub invariant-loop-left : goal.invariant-loop-left

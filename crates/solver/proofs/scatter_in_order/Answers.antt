@@ -1,6 +1,6 @@
 -- `solver::scatter_in_order` meets its contract.
 use mathlib.Core.Path.{sym, ◌∙◌}
-use borrow.Author.Rules.{rules}
+use native.Mathlib.Omega.{arith}
 use lib.ListN.{length}
 use Rattle.numeric.specs.Axes.{axes}
 use Rattle.laws.specs.Store.{store}
@@ -11,7 +11,7 @@ use Rattle.solver.proofs.Turning.{turned, turn_ready}
 use Rattle.solver.proofs.scatter_in_order.Goals as goal
 
 pub returns-in_default : goal.returns-in_default
-returns-in_default c = (c.check_in_order-a.ensures, settle_old _ _ _ (stops c.check_in_order-a.result c.in_default.keys2))
+returns-in_default c = (c.check_in_order-a.ensures, settle_old _ _ _ (stops c.check_in_order-a.result (omega arith)))
 
 pub scatter_regions-requires : goal.scatter_regions-requires
 scatter_regions-requires c =

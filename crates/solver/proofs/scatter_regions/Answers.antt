@@ -1,12 +1,9 @@
 -- `solver::scatter_regions` meets its contract: the first i regions of the order are scattered.
 use mathlib.Core.Path.{◌≡◌, refl, ◌∙◌}
-use Prim.Native.Nat.{◌*◌, ◌-◌, ◌≤◌}
 use native.Mathlib.Omega.{arith}
-use borrow.Author.Rules.{rules}
 use lib.ListN.{length}
 use Rattle.numeric.specs.Axes.{axes}
-use Rattle.laws.specs.Store.{store, Holds}
-use Rattle.grid.specs.Nodes.{node_form, region_cells}
+use Rattle.laws.specs.Store.{store}
 use Rattle.particles.proofs.Staging.{still_ready}
 use Rattle.solver.specs.Order.{in_order}
 use Rattle.solver.proofs.Turning.{one_more}

@@ -1,5 +1,4 @@
 -- `cells::dim2::cell_associated_to_point` meets its contract: the id of both coordinates, one off each.
-use Rattle.std.proofs.Common.{rules}
 use Rattle.cells.specs.Cells.{cell_associated_to_point}
 use Rattle.cells.proofs.dim2.cell_associated_to_point.Goals as goal
 

@@ -1,5 +1,4 @@
 -- `cells::dim2::cell_at_point` meets its contract: the id of both coordinates.
-use Rattle.std.proofs.Common.{rules}
 use Rattle.cells.specs.Cells.{cell_at_point}
 use Rattle.cells.proofs.dim2.cell_at_point.Goals as goal
 

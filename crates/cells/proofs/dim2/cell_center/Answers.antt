@@ -1,5 +1,4 @@
 -- `cells::dim2::cell_center` meets its contract: packing's answer is a list of two coordinates, and the axes are taken one at a time.
-use Rattle.std.proofs.Common.{rules}
 use Rattle.cells.specs.Cells.{cell_center}
 use Rattle.cells.proofs.dim2.cell_center.Goals as goal
 

@@ -1,5 +1,4 @@
 -- `cells::dim2::cell_pos_closest_to_point` meets its contract: an axis at a time.
-use Rattle.std.proofs.Common.{rules}
 use Rattle.cells.specs.Cells.{cell_pos_closest_to_point}
 use Rattle.cells.proofs.dim2.cell_pos_closest_to_point.Goals as goal
 

@@ -1,5 +1,4 @@
 -- `cells::dim2::coord` meets its contract: the quotient is rounded, then cast.
-use Rattle.std.proofs.Common.{rules}
 use Rattle.cells.proofs.dim2.coord.Goals as goal
 
 pub returns : goal.returns

@@ -1,5 +1,4 @@
 -- `cells::dim2::region_associated_to_point` meets its contract: the region of that cell.
-use Rattle.std.proofs.Common.{rules}
 use Rattle.cells.specs.Cells.{region_associated_to_point}
 use Rattle.cells.proofs.dim2.region_associated_to_point.Goals as goal
 

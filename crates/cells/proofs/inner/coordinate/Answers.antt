@@ -1,5 +1,5 @@
 -- `cells::inner::coordinate` meets its contract: nothing else is on the grid, and what is there is a whole number.
-use Rattle.std.proofs.Common.{◌≡◌, ℕ, zero, suc, ◌≤◌, true, false, ◌&&◌, leb, sym, ap, ◌∙◌, arith, rules, le-leb}
+use Rattle.std.proofs.Common.{◌≡◌, ℕ, zero, suc, ◌≤◌, true, false, ◌&&◌, leb, sym, ap, ◌∙◌, arith, le-leb}
 use mathlib.Core.Bool.{false≢true}
 use borrow.Author.Tests.{lt-leb}
 use lib.Ieee.{Float}
@@ -16,12 +16,12 @@ off : (r : Float) → in_range r ≡ false → IsCoordinate r 0
 off r e = record { is = rw e; below = omega arith; whole = λ t. absurd (false≢true (sym e ∙ t)) }
 
 -- x is rounded to the whole number
-rounded : (c : After-nearest_whole-n) → round_away c.before.before.before.args.x ≡ nearest_to c.nearest_whole_lem.result
+rounded : (c : After-nearest_whole-n) → round_away c.args.x ≡ nearest_to c.nearest_whole-n.result
 rounded c =
     rounds c.args.x (yes c.well_formed.0.1) (omega arith) ∙ sym (rw c.nearest_whole-n.ensures.0)
 
 -- which is in range, or not
-range : (c : After-nearest_whole-n) → let n = c.nearest_whole_lem.result in in_range (round_away c.before.before.before.args.x) ≡ (leb 1 n && leb n 65535)
+range : (c : After-nearest_whole-n) → let n = c.nearest_whole-n.result in in_range (round_away c.args.x) ≡ (leb 1 n && leb n 65535)
 range c = ap in_range (rounded c) ∙ whole_range c.nearest_whole-n.result c.nearest_whole-n.ensures.1
 
 pub returns-then-x : goal.returns-then-x

@@ -1,5 +1,4 @@
 -- `cells::inner::dpt` meets its contract: an axis at a time.
-use Rattle.std.proofs.Common.{rules}
 use Rattle.cells.proofs.inner.dpt.Goals as goal
 
 pub returns : goal.returns

@@ -5,18 +5,12 @@ use mathlib.Core.List.{List}
 use Prim.Native.Nat.{ℕ, ◌+◌, ◌-◌, ◌≤◌, ◌<◌}
 use native.Mathlib.Numerals.{add-one}
 use native.Mathlib.Omega.{arith}
-use borrow.Author.Rules.{rules}
 use lib.Dec.{eqb}
 use borrow.Author.Tests.{eq-eqb, ne_eqb, le-leb, lt-leb}
-use Rattle.grid.specs.Answers.{refuse, first_of}
 use Rattle.grid.specs.Table.{start_of, count_of, before, misplaced, cover}
-use Rattle.grid.specs.declared.Answer.{Answer}
 use Rattle.grid.specs.declared.Rule.TheVariants.{Cover}
 use Rattle.grid.proofs.Answers.{stop_at, go_on, none_left}
 use Rattle.grid.proofs.inner.check_cover.Goals as goal
-
-abbrev judge : List ℕ → ℕ → ℕ → Answer
-judge ranges n r = refuse (misplaced ranges n r) Cover r
 
 -- what the code's two tests tell of a region
 starts : (ranges : List ℕ) (n r : ℕ) → (start_of ranges r ≡ before ranges r → ⊥) → misplaced ranges n r ≡ true

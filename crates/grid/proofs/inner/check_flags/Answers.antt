@@ -1,20 +1,15 @@
 -- `grid::inner::check_flags` meets its contract: before place k every word is a flag.
 use mathlib.Core.Path.{◌≡◌, sym, ap, ◌∙◌}
-use mathlib.Core.Bool.{Bool, true, false, not}
-use mathlib.Core.List.{List}
-use Prim.Native.Nat.{ℕ, ◌≤◌, ◌-◌}
+use mathlib.Core.Bool.{true, false, not}
+use Prim.Native.Nat.{◌-◌}
 use native.Mathlib.Omega.{arith}
-use borrow.Author.Rules.{rules}
 use borrow.Author.Tests.{le-leb, lt-leb}
 use lib.ListN.{length, get_or}
-use Rattle.grid.specs.Answers.{refuse, first_of}
-use Rattle.grid.specs.Table.{is_flag, flags}
+use Rattle.grid.specs.Table.{flags}
 use Rattle.grid.specs.declared.Rule.TheVariants.{Code}
 use Rattle.grid.proofs.Answers.{stop_at, go_on, none_left}
+use Rattle.grid.proofs.inner.check_flags.Invariants.{bad}
 use Rattle.grid.proofs.inner.check_flags.Goals as goal
-
-abbrev bad : List ℕ → ℕ → Bool
-bad ws k = not (is_flag (get_or ws k 0))
 
 pub loop-k-init : goal.loop-k-init
 loop-k-init c = (omega arith, let e : length c.args.words.now - 0 ≡ length c.args.words.now = omega arith in rw e)

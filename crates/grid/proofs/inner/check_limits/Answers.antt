@@ -1,6 +1,5 @@
 -- `grid::inner::check_limits` meets its contract.
 use mathlib.Core.Bool.{and-true}
-use borrow.Author.Rules.{rules}
 use Rattle.grid.proofs.inner.check_limits.Goals as goal
 
 pub returns : goal.returns

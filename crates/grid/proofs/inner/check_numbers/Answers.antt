@@ -1,23 +1,17 @@
 -- `grid::inner::check_numbers` meets its contract: before place k every float is finite.
 use mathlib.Core.Path.{◌≡◌, refl, sym, ap, ◌∙◌}
 use mathlib.Core.Bool.{Bool, true, false, not}
-use mathlib.Core.List.{List}
-use Prim.Native.Nat.{ℕ, ◌≤◌, ◌-◌, ◌/◌}
+use Prim.Native.Nat.{◌-◌, ◌/◌}
 use native.Mathlib.Omega.{arith}
-use borrow.Author.Rules.{rules}
-use lib.Ieee.{Float, nan}
+use lib.Ieee.{nan}
 use lib.ListN.{length, get_or}
 use Rattle.laws.proofs.Refusals.{first_stop, first_go, first_end}
-use Rattle.grid.specs.Answers.{refused, refuse, first_of}
+use Rattle.grid.specs.Answers.{refused, refuse}
 use Rattle.grid.specs.Table.{finite, numbers}
-use Rattle.grid.specs.declared.Answer.{Answer}
 use Rattle.grid.specs.declared.Answer.TheVariants.{Done, Refused}
 use Rattle.grid.specs.declared.Rule.TheVariants.{NotFinite}
-use Rattle.grid.proofs.Answers.{not_false, not_true}
+use Rattle.grid.proofs.inner.check_numbers.Invariants.{judge}
 use Rattle.grid.proofs.inner.check_numbers.Goals as goal
-
-abbrev judge : List Float → ℕ → ℕ → Answer
-judge xs each k = refuse (not (finite (get_or xs k nan))) NotFinite (k / each)
 
 pub loop-k-init : goal.loop-k-init
 loop-k-init c = (omega arith, let e : length c.args.floats.now - 0 ≡ length c.args.floats.now = omega arith in rw e)
@@ -28,7 +22,7 @@ returns-then-not-is_finite c =
     let xs = c.args.floats.now in
     let k = c.loop-k.k in
     let each = c.args.each in
-    let e : finite (get_or xs k nan) ≡ false = sym c.is_finite.ensures ∙ not_true c.is_finite.result c.if-not-is_finite.true in
+    let e : finite (get_or xs k nan) ≡ false = sym c.is_finite.ensures ∙ c.if-not-is_finite.true in
     sym (c.loop-k.invariant.1
     ∙ first_stop refused Done (judge xs each) (length xs) k (Refused NotFinite (k / each)) (omega arith) (ap (λ (b : Bool). refuse (not b) NotFinite (k / each)) e) refl)
 
@@ -37,7 +31,7 @@ loop-k-preserved c =
     let xs = c.args.floats.now in
     let k = c.loop-k.k in
     let each = c.args.each in
-    let e : finite (get_or xs k nan) ≡ true = sym c.is_finite.ensures ∙ not_false c.is_finite.result c.if-not-is_finite.false in (
+    let e : finite (get_or xs k nan) ≡ true = sym c.is_finite.ensures ∙ c.if-not-is_finite.false in (
       omega arith,
       c.loop-k.invariant.1
           ∙ first_go refused Done (judge xs each) (length xs) k (omega arith) (ap (λ (b : Bool). refused (refuse (not b) NotFinite (k / each))) e),

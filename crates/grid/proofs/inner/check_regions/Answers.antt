@@ -1,19 +1,12 @@
 -- `grid::inner::check_regions` meets its contract: before place k no region is bad.
 use mathlib.Core.Path.{◌≡◌, sym, ◌∙◌}
-use mathlib.Core.List.{List}
-use Prim.Native.Nat.{ℕ, ◌≤◌, ◌-◌}
+use Prim.Native.Nat.{◌-◌}
 use native.Mathlib.Omega.{arith}
-use borrow.Author.Rules.{rules}
 use lib.ListN.{length}
-use Rattle.grid.specs.Answers.{refuse, first_of}
 use Rattle.grid.specs.Table.{bad_region, region_ids}
-use Rattle.grid.specs.declared.Answer.{Answer}
 use Rattle.grid.specs.declared.Rule.TheVariants.{RegionIds}
 use Rattle.grid.proofs.Answers.{stop_at, go_on, none_left}
 use Rattle.grid.proofs.inner.check_regions.Goals as goal
-
-abbrev judge : List ℕ → ℕ → Answer
-judge ids k = refuse (bad_region ids k) RegionIds k
 
 pub loop-k-init : goal.loop-k-init
 loop-k-init c = (omega arith, let e : length c.args.ids.now - 0 ≡ length c.args.ids.now = omega arith in rw e)

@@ -1,16 +1,16 @@
 -- `grid::inner::check_regions` meets its contract: before place k no region is bad.
-use mathlib.Core.Path.{◌≡◌, sym, ◌∙◌}
+use mathlib.Core.Path.{◌≡◌}
 use mathlib.Core.List.{List}
 use Prim.Native.Nat.{ℕ, ◌≤◌, ◌-◌}
-use native.Mathlib.Omega.{arith}
-use borrow.Author.Rules.{rules}
 use lib.ListN.{length}
 use Rattle.grid.specs.Answers.{refuse, first_of}
-use Rattle.grid.specs.Table.{bad_region, region_ids}
+use Rattle.grid.specs.Table.{bad_region}
 use Rattle.grid.specs.declared.Answer.{Answer}
 use Rattle.grid.specs.declared.Rule.TheVariants.{RegionIds}
-use Rattle.grid.proofs.Answers.{stop_at, go_on, none_left}
 use Rattle.grid.proofs.inner.check_regions.Given as goal
+
+abbrev pub judge : List ℕ → ℕ → Answer
+judge ids k = refuse (bad_region ids k) RegionIds k
 
 abbrev pub invariant-loop-k : goal.invariant-loop-k
 invariant-loop-k l = (l.k ≤ length l.ids) × (first_of (judge l.ids) 0 (length l.ids) ≡ first_of (judge l.ids) l.k (length l.ids - l.k))

@@ -1,6 +1,5 @@
 -- `grid::inner::holds_nodes` meets its contract.
 use mathlib.Core.Bool.{and-true}
-use borrow.Author.Rules.{rules}
 use Rattle.grid.proofs.inner.holds_nodes.Goals as goal
 
 pub returns : goal.returns

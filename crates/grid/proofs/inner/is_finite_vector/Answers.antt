@@ -1,6 +1,5 @@
 -- `grid::inner::is_finite_vector` meets its contract.
 use mathlib.Core.Bool.{and-true}
-use borrow.Author.Rules.{rules}
 use Rattle.grid.proofs.inner.is_finite_vector.Goals as goal
 
 pub returns : goal.returns

@@ -1,5 +1,4 @@
 -- `grid::inner::is_step` meets its contract.
-use borrow.Author.Rules.{rules}
 use Rattle.grid.specs.Table.{good_step}
 use Rattle.grid.proofs.inner.is_step.Goals as goal
 

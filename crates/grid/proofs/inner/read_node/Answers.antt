@@ -1,6 +1,5 @@
 -- `grid::inner::read_node` meets its contract: the fields are the stretches' entries, in order.
 use mathlib.Core.Path.{refl}
-use borrow.Author.Rules.{rules}
 use Rattle.grid.specs.Nodes.{node_at}
 use Rattle.grid.proofs.inner.read_node.Goals as goal
 

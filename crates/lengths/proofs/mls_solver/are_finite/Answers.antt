@@ -1,6 +1,5 @@
 -- `lengths::mls_solver::are_finite` meets its contract.
 use mathlib.Core.Bool.{and-true}
-use borrow.Author.Rules.{rules}
 use Rattle.lengths.proofs.mls_solver.are_finite.Goals as goal
 
 pub returns : goal.returns

@@ -1,7 +1,6 @@
 -- `lengths::mls_solver::check_step` meets its contract, number by number.
 use mathlib.Core.Path.{◌∙◌}
 use mathlib.Core.Bool.{and-true}
-use borrow.Author.Rules.{rules}
 use lib.Dec.{eqb}
 use Rattle.grid.specs.Table.{called, finite}
 use Rattle.lengths.specs.Lengths.{step_check}

@@ -1,6 +1,5 @@
 -- `lengths::mls_solver::min_dt` meets its contract: each way out of it.
 use mathlib.Core.Bool.{and-true}
-use borrow.Author.Rules.{rules}
 use borrow.Author.Tests.{ne_eqb}
 use Rattle.grid.specs.Table.{finite}
 use Rattle.lengths.specs.Lengths.{min_check, min_dt}

@@ -1,5 +1,4 @@
 -- `lengths::mls_solver::min_of` meets its contract.
-use borrow.Author.Rules.{rules}
 use Rattle.lengths.proofs.mls_solver.min_of.Goals as goal
 
 pub returns : goal.returns

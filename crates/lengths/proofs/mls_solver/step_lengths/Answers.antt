@@ -1,6 +1,5 @@
 -- `lengths::mls_solver::step_lengths` meets its contract: its check refuses nothing, or something.
 use mathlib.Core.Path.{sym, ◌∙◌}
-use borrow.Author.Rules.{rules}
 use Rattle.lengths.specs.Lengths.{step_lengths}
 use Rattle.lengths.proofs.mls_solver.step_lengths.Goals as goal
 

@@ -1,6 +1,5 @@
 -- `lengths::mls_solver::substep` meets its contract: each way out of it.
 use mathlib.Core.Bool.{and-true}
-use borrow.Author.Rules.{rules}
 use Rattle.lengths.specs.Lengths.{substep_check, substep}
 use Rattle.lengths.proofs.mls_solver.substep.Goals as goal
 

@@ -1,13 +1,6 @@
 -- `lengths::mls_solver::take_substeps` meets its contract: after niter substeps the step goes on as the definition does.
-use mathlib.Core.Path.{◌≡◌, refl, sym, ◌∙◌}
-use mathlib.Core.Bool.{not}
-use Prim.Native.Nat.{◌-◌, ◌≤◌}
+use mathlib.Core.Path.{refl, sym, ◌∙◌}
 use native.Mathlib.Omega.{arith}
-use borrow.Author.Rules.{rules}
-use lib.Dec.{eqb}
-use lib.ListN.{length, drop}
-use Rattle.grid.proofs.Answers.{not_false, not_true}
-use Rattle.lengths.specs.Lengths.{walk}
 use Rattle.lengths.proofs.Walking.{finish, stop, over_walk, runs_out, breaks, goes_on}
 use Rattle.lengths.proofs.mls_solver.take_substeps.Goals as goal
 
@@ -23,13 +16,13 @@ returns-then-niter-dts c = sym (c.loop-remaining_time.invariant.1 ∙ runs_out _
 pub returns-then-not-is_allowed : goal.returns-then-not-is_allowed
 returns-then-not-is_allowed c =
     sym (c.loop-remaining_time.invariant.1
-    ∙ breaks _ _ _ _ _ (record { remains = c.loop-remaining_time-test.true; more = c.if-stop_after_one_substep-niter.false }) _ (omega arith) (sym c.is_allowed.ensures ∙ not_true _ c.if-not-is_allowed.true))
+    ∙ breaks _ _ _ _ _ (record { remains = c.loop-remaining_time-test.true; more = c.if-stop_after_one_substep-niter.false }) _ (omega arith) (sym c.is_allowed.ensures ∙ c.if-not-is_allowed.true))
 
 pub loop-remaining_time-preserved : goal.loop-remaining_time-preserved
 loop-remaining_time-preserved c = (
   omega arith,
   c.loop-remaining_time.invariant.1
-      ∙ goes_on _ _ _ _ _ (record { remains = c.loop-remaining_time-test.true; more = c.if-stop_after_one_substep-niter.false }) _ (omega arith) (sym c.is_allowed.ensures ∙ not_false _ c.if-not-is_allowed.false)
+      ∙ goes_on _ _ _ _ _ (record { remains = c.loop-remaining_time-test.true; more = c.if-stop_after_one_substep-niter.false }) _ (omega arith) (sym c.is_allowed.ensures ∙ c.if-not-is_allowed.false)
       ∙ rw c.raise-remaining_time.ensures,
 )
 

@@ -1,5 +1,4 @@
 -- `solver::step::check_given` meets its contract, number by number.
-use borrow.Author.Rules.{rules}
 use Rattle.grid.proofs.Answers.{unless_end}
 use Rattle.solver.proofs.step.check_given.Goals as goal
 

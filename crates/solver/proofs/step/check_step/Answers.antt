@@ -1,6 +1,5 @@
 -- `solver::step::check_step` meets its contract: what is found of the call, then of its records.
 use mathlib.Core.Path.{sym, ap, ◌∙◌}
-use borrow.Author.Rules.{rules}
 use native.Mathlib.Omega.{arith}
 use Rattle.numeric.specs.Axes.{axes}
 use Rattle.laws.specs.Store.{store}
@@ -26,7 +25,7 @@ returns-in_default c =
       ← c.check_own.ensures,
       ← c.check_call-a.ensures,
     )
-    (stays _ _ (stops c.check_call-a.result c.in_default.keys2))
+    (stays _ _ (stops c.check_call-a.result (omega arith)))
 
 pub check_records-requires : goal.check_records-requires
 check_records-requires c =

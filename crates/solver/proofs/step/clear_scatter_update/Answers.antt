@@ -2,7 +2,6 @@
 use mathlib.Core.Path.{◌≡◌, sym, ◌∙◌, subst}
 use mathlib.Core.Bool.{true≢false}
 use native.Mathlib.Omega.{arith}
-use borrow.Author.Rules.{rules}
 use lib.ListN.{length}
 use Rattle.numeric.specs.Axes.{axes}
 use Rattle.laws.specs.Store.{Store, store}
@@ -16,13 +15,13 @@ use Rattle.solver.proofs.step.clear_scatter_update.Goals as goal
 
 pub returns-in_default : goal.returns-in_default
 returns-in_default c =
-    let stop = stops c.check_step-a.result c.in_default.keys2 in
+    let stop = stops c.check_step-a.result (omega arith) in
     (c.check_step-a.ensures, settle_old _ _ _ stop, λ f. absurd (true≢false (sym stop ∙ f)))
 
 pub scatter_all-requires : goal.scatter_all-requires
 scatter_all-requires c =
     let g = c.args in
-    let kept = c.clear.kept in
+    let kept = c.clear.auto in
     let r =
     scatter_ready g.cell_width g.dt (axes g.gravity) g.boundary_handling g.simulation_dofs g.regions g.ids.now g.ranges.now g.particles (store g.pf.now g.pw.now) g.colliders g.cf.now
     (store g.jf.now g.jw.now) (store g.nf.now g.nw.now) (sym c.check_step-a.ensures ∙ c.in-Done.is) in
@@ -37,10 +36,10 @@ returns c =
     let projections = store g.jf.now g.jw.now in
     let s = store g.nf.now g.nw.now in
     let e = sym c.check_step-a.ensures ∙ c.in-Done.is in
-    let asked : c.clear.result ≡ clear_check g.regions ids (length g.nf.now) (length g.nw.now) = c.clear.ensures.path in
+    let asked : c.clear.result ≡ clear_check g.regions ids (length g.nf.now) (length g.nw.now) = c.clear.ensures.0 in
     let done = asked ∙ clear_done g.cell_width g.dt (axes g.gravity) g.boundary_handling g.simulation_dofs g.regions ids ranges g.particles particles g.colliders g.cf.now projections s e in
     let all = in_turn_lem g.cell_width g.dt (axes g.gravity) g.boundary_handling g.simulation_dofs g.regions ids ranges g.particles particles g.colliders g.cf.now projections s e
-    _ _ _ _ _ done c.clear.ensures.capacity c.scatter_all.ensures c.grid_update.ensures.0 c.grid_update.ensures.1 in (
+    _ _ _ _ _ done c.clear.ensures.1 c.scatter_all.ensures c.grid_update.ensures.0 c.grid_update.ensures.1 in (
       all.0 ∙ sym e,
       all.1 ∙ rw all.0,
       λ f.
