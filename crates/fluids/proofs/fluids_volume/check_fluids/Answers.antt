@@ -1,7 +1,6 @@
 -- `fluids::fluids_volume::check_fluids` meets its contract: the check of a stage, with the cell width as its one setting.
 use mathlib.Core.Path.{◌∙◌}
 use mathlib.Core.Bool.{and-true}
-use borrow.Author.Rules.{rules}
 use Rattle.grid.specs.Table.{good_width}
 use Rattle.fluids.specs.Fluids.{fluids_check}
 use Rattle.fluids.proofs.fluids_volume.check_fluids.Goals as goal

@@ -1,8 +1,6 @@
 -- `fluids::fluids_volume::gather_column` meets its contract: the masses of the column's nodes below j are added.
-use mathlib.Core.Path.{◌≡◌, refl, ◌∙◌}
-use Prim.Native.Nat.{suc, ◌+◌, ◌-◌, ◌≤◌}
-use native.Mathlib.Omega.{arith}
-use borrow.Author.Rules.{rules}
+use mathlib.Core.Path.{◌≡◌}
+use Prim.Native.Nat.{◌-◌, ◌≤◌}
 use Rattle.laws.specs.Store.{store}
 use Rattle.gather.specs.Gather.{over_column}
 use Rattle.fluids.specs.Fluids.{weighing}

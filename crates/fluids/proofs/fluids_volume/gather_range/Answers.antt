@@ -1,15 +1,12 @@
 -- `fluids::fluids_volume::gather_range` meets its contract: of the region's particles the first k are recomputed, and the others as they were.
 use mathlib.Core.Path.{◌≡◌, ◌∙◌}
-use Prim.Native.Nat.{ℕ, ◌+◌, ◌-◌, ◌≤◌, ◌<◌}
+use Prim.Native.Nat.{ℕ, ◌+◌, ◌<◌}
 use native.Mathlib.Omega.{arith}
-use borrow.Author.Rules.{rules}
-use lib.ListN.{length}
 use Rattle.laws.specs.Store.{store}
-use Rattle.laws.specs.Hits.{run, change_at}
+use Rattle.laws.specs.Hits.{change_at}
 use Rattle.laws.proofs.Hits.{run_none, run_more}
 use Rattle.particles.specs.Particles.{particles}
 use Rattle.particles.specs.declared.particle.Particle.{Particle}
-use Rattle.gather.specs.Gather.{changes_from}
 use Rattle.gather.proofs.Gathering.{one_change}
 use Rattle.gather.proofs.Ranging.{serves, own, on}
 use Rattle.fluids.specs.Fluids.{recomputed}

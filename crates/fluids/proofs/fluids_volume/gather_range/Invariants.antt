@@ -1,23 +1,16 @@
 -- `fluids::fluids_volume::gather_range` meets its contract: of the region's particles the first k are recomputed, and the others as they were.
-use mathlib.Core.Path.{◌≡◌, ◌∙◌}
-use Prim.Native.Nat.{ℕ, ◌+◌, ◌-◌, ◌≤◌, ◌<◌}
-use native.Mathlib.Omega.{arith}
-use borrow.Author.Rules.{rules}
+use mathlib.Core.Path.{◌≡◌}
+use Prim.Native.Nat.{◌-◌, ◌≤◌}
 use lib.ListN.{length}
 use Rattle.laws.specs.Store.{store}
-use Rattle.laws.specs.Hits.{run, change_at}
-use Rattle.laws.proofs.Hits.{run_none, run_more}
+use Rattle.laws.specs.Hits.{run}
 use Rattle.particles.specs.Particles.{particles}
-use Rattle.particles.specs.declared.particle.Particle.{Particle}
 use Rattle.gather.specs.Gather.{changes_from}
-use Rattle.gather.proofs.Gathering.{one_change}
-use Rattle.gather.proofs.Ranging.{serves, own, on}
 use Rattle.fluids.specs.Fluids.{recomputed}
-use Rattle.fluids.proofs.Recomputing.{recomputed_in_lem}
 use Rattle.fluids.proofs.fluids_volume.gather_range.Given as goal
 
 abbrev pub invariant-loop-k : goal.invariant-loop-k
-invariant-loop-k l =     (l.k ≤ l.count) × (length l.pf ≡ length l.initial.pf) × (length l.pw ≡ length l.initial.pw) × (store l.pf l.pw ≡ run particles (changes_from (recomputed l.cell_width l.ids (store l.nf l.nw)) l.start l.k) (store l.initial.pf l.initial.pw))
+invariant-loop-k l = (l.k ≤ l.count) × (length l.pf ≡ length l.initial.pf) × (length l.pw ≡ length l.initial.pw) × (store l.pf l.pw ≡ run particles (changes_from (recomputed l.cell_width l.ids (store l.nf l.nw)) l.start l.k) (store l.initial.pf l.initial.pw))
 
 abbrev pub decreases-loop-k : goal.decreases-loop-k
 decreases-loop-k l = l.count - l.k

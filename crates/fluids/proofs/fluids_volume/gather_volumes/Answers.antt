@@ -1,11 +1,10 @@
 -- `fluids::fluids_volume::gather_volumes` meets its contract: the particles of the regions before r are recomputed, and the others as they were.
 use mathlib.Core.Path.{◌≡◌, ◌∙◌}
-use Prim.Native.Nat.{ℕ, suc, ◌+◌, ◌-◌, ◌≤◌, ◌<◌}
+use Prim.Native.Nat.{ℕ, suc, ◌+◌, ◌<◌}
 use native.Mathlib.Omega.{arith}
-use borrow.Author.Rules.{rules}
 use lib.ListN.{length}
 use Rattle.laws.specs.Store.{store}
-use Rattle.laws.specs.Hits.{run, gather, change_at, changes}
+use Rattle.laws.specs.Hits.{change_at, changes}
 use Rattle.laws.proofs.Hits.{run_none, run_from}
 use Rattle.grid.specs.Table.{before, count_of}
 use Rattle.particles.specs.Particles.{particles}

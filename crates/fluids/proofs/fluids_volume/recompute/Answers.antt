@@ -1,6 +1,5 @@
 -- `fluids::fluids_volume::recompute` meets its contract: in each branch.
 use mathlib.Core.Path.{◌∙◌}
-use borrow.Author.Rules.{rules}
 use borrow.Author.Tests.{ne_eqb}
 use Rattle.fluids.specs.Fluids.{recomputed_in}
 use Rattle.fluids.proofs.fluids_volume.recompute.Goals as goal

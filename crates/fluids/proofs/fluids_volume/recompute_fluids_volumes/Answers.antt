@@ -1,6 +1,6 @@
 -- `fluids::fluids_volume::recompute_fluids_volumes` meets its contract: the check, and what follows it.
 use mathlib.Core.Path.{◌≡◌, sym, ap, ◌∙◌}
-use borrow.Author.Rules.{rules}
+use native.Mathlib.Omega.{arith}
 use lib.ListN.{length}
 use Rattle.laws.proofs.Refusals.{settle_old}
 use Rattle.grid.specs.Answers.{refused}
@@ -12,7 +12,7 @@ use Rattle.fluids.proofs.fluids_volume.recompute_fluids_volumes.Goals as goal
 
 pub returns-in_default : goal.returns-in_default
 returns-in_default c =
-    let same = stops c.check_fluids-a.result c.in_default.keys2 in
+    let same = stops c.check_fluids-a.result (omega arith) in
     (c.check_fluids-a.ensures, settle_old _ _ _ same, settle_old _ _ _ same)
 
 pub recompute_volumes-requires : goal.recompute_volumes-requires

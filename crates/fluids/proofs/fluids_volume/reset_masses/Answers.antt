@@ -1,12 +1,10 @@
 -- `fluids::fluids_volume::reset_masses` meets its contract: all nodes but those left are without mass, and the others as they were.
 use mathlib.Core.Path.{◌≡◌, ◌∙◌}
-use Prim.Native.Nat.{ℕ, ◌*◌, ◌-◌, ◌≤◌}
+use Prim.Native.Nat.{ℕ, ◌*◌, ◌-◌}
 use native.Mathlib.Omega.{arith}
-use borrow.Author.Rules.{rules}
-use Rattle.laws.specs.Store.{store, Holds}
-use Rattle.laws.specs.Hits.{run, gather, change_at, changes}
+use Rattle.laws.specs.Hits.{change_at, changes}
 use Rattle.laws.proofs.Hits.{run_none, run_left}
-use Rattle.grid.specs.Nodes.{node_form, nodes, region_cells}
+use Rattle.grid.specs.Nodes.{nodes, region_cells}
 use Rattle.grid.proofs.Changing.{one_hit}
 use Rattle.fluids.specs.Fluids.{massless, emptied}
 use Rattle.fluids.proofs.fluids_volume.reset_masses.Goals as goal

@@ -1,5 +1,5 @@
 -- `gather::grid_to_particle::add` meets its contract, in the order of the definition.
-use Rattle.std.proofs.Common.{List, get_or, ap, rules}
+use Rattle.std.proofs.Common.{List, get_or, ap}
 use lib.Ieee.{Float, nan}
 use Rattle.gather.specs.Transfer.{taken_from}
 use Rattle.gather.proofs.grid_to_particle.add.Goals as goal

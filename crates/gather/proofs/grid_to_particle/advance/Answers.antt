@@ -1,5 +1,4 @@
 -- `gather::grid_to_particle::advance` meets its contract, a part at a time.
-use Rattle.std.proofs.Common.{rules}
 use Rattle.gather.specs.Transfer.{moved, advanced}
 use Rattle.gather.proofs.grid_to_particle.advance.Goals as goal
 

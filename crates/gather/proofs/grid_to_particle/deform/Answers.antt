@@ -1,5 +1,5 @@
 -- `gather::grid_to_particle::deform` meets its contract: in each branch.
-use Rattle.std.proofs.Common.{◌∙◌, rules, ne_eqb}
+use Rattle.std.proofs.Common.{◌∙◌, ne_eqb}
 use Rattle.gather.proofs.grid_to_particle.deform.Goals as goal
 
 pub returns-then-q-eq0 : goal.returns-then-q-eq0

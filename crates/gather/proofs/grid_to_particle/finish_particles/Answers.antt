@@ -1,9 +1,9 @@
 -- `gather::grid_to_particle::finish_particles` meets its contract: the particles below p are changed, and the others as they were.
-use Rattle.std.proofs.Common.{◌≡◌, ◌-◌, ◌≤◌, ◌∙◌, arith, rules}
-use Rattle.laws.specs.Store.{store, Holds}
-use Rattle.laws.specs.Hits.{run, gather, change_at, changes}
+use Rattle.std.proofs.Common.{◌≡◌, ◌∙◌, arith}
+use Rattle.laws.specs.Store.{store}
+use Rattle.laws.specs.Hits.{change_at, changes}
 use Rattle.laws.proofs.Hits.{run_none, run_more}
-use Rattle.particles.specs.Particles.{particle_form, particles}
+use Rattle.particles.specs.Particles.{particles}
 use Rattle.gather.specs.Gather.{second_change, second_half}
 use Rattle.gather.proofs.Gathering.{one_change}
 use Rattle.gather.proofs.grid_to_particle.finish_particles.Goals as goal

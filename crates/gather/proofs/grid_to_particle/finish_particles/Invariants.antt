@@ -1,15 +1,13 @@
 -- `gather::grid_to_particle::finish_particles` meets its contract: the particles below p are changed, and the others as they were.
-use Rattle.std.proofs.Common.{◌≡◌, ◌-◌, ◌≤◌, ◌∙◌, arith, rules}
+use Rattle.std.proofs.Common.{◌≡◌, ◌-◌, ◌≤◌}
 use Rattle.laws.specs.Store.{store, Holds}
-use Rattle.laws.specs.Hits.{run, gather, change_at, changes}
-use Rattle.laws.proofs.Hits.{run_none, run_more}
+use Rattle.laws.specs.Hits.{run, gather, change_at}
 use Rattle.particles.specs.Particles.{particle_form, particles}
-use Rattle.gather.specs.Gather.{second_change, second_half}
-use Rattle.gather.proofs.Gathering.{one_change}
+use Rattle.gather.specs.Gather.{second_change}
 use Rattle.gather.proofs.grid_to_particle.finish_particles.Given as goal
 
 abbrev pub invariant-loop-p : goal.invariant-loop-p
-invariant-loop-p l =     (l.p ≤ l.particles) × Holds particle_form (store l.pf l.pw) l.particles × (store l.pf l.pw ≡ run particles (gather (change_at (second_change (store l.gf l.gw))) l.p) (store l.initial.pf l.initial.pw))
+invariant-loop-p l = (l.p ≤ l.particles) × Holds particle_form (store l.pf l.pw) l.particles × (store l.pf l.pw ≡ run particles (gather (change_at (second_change (store l.gf l.gw))) l.p) (store l.initial.pf l.initial.pw))
 
 abbrev pub decreases-loop-p : goal.decreases-loop-p
 decreases-loop-p l = l.particles - l.p

@@ -1,7 +1,7 @@
 -- `gather::grid_to_particle::gather_particles` meets its contract: the particles of the regions before r are changed, and the others as they were.
-use Rattle.std.proofs.Common.{◌≡◌, ℕ, suc, ◌+◌, ◌-◌, ◌<◌, ◌≤◌, length, ◌∙◌, arith, rules}
+use Rattle.std.proofs.Common.{◌≡◌, ℕ, suc, ◌+◌, ◌<◌, length, ◌∙◌, arith}
 use Rattle.laws.specs.Store.{store}
-use Rattle.laws.specs.Hits.{run, gather, change_at, changes}
+use Rattle.laws.specs.Hits.{change_at, changes}
 use Rattle.laws.proofs.Hits.{run_none, run_from}
 use Rattle.grid.specs.Table.{before, count_of}
 use Rattle.particles.specs.Particles.{particles}

@@ -1,11 +1,11 @@
 -- `gather::grid_to_particle::gather_range` meets its contract: of the region's particles the first k are changed, and the others as they were.
-use Rattle.std.proofs.Common.{◌≡◌, ℕ, ◌+◌, ◌-◌, ◌<◌, ◌≤◌, length, ◌∙◌, arith, rules}
+use Rattle.std.proofs.Common.{◌≡◌, ℕ, ◌+◌, ◌<◌, ◌∙◌, arith}
 use Rattle.laws.specs.Store.{store}
-use Rattle.laws.specs.Hits.{run, change_at}
+use Rattle.laws.specs.Hits.{change_at}
 use Rattle.laws.proofs.Hits.{run_none, run_more}
 use Rattle.particles.specs.Particles.{particles}
 use Rattle.particles.specs.declared.particle.Particle.{Particle}
-use Rattle.gather.specs.Gather.{first_change, changes_from}
+use Rattle.gather.specs.Gather.{first_change}
 use Rattle.gather.proofs.Columns.{taken_in_lem}
 use Rattle.gather.proofs.Gathering.{one_change}
 use Rattle.gather.proofs.Ranging.{serves, own, on}

@@ -1,18 +1,13 @@
 -- `gather::grid_to_particle::gather_range` meets its contract: of the region's particles the first k are changed, and the others as they were.
-use Rattle.std.proofs.Common.{◌≡◌, ℕ, ◌+◌, ◌-◌, ◌<◌, ◌≤◌, length, ◌∙◌, arith, rules}
+use Rattle.std.proofs.Common.{◌≡◌, ◌-◌, ◌≤◌, length}
 use Rattle.laws.specs.Store.{store}
-use Rattle.laws.specs.Hits.{run, change_at}
-use Rattle.laws.proofs.Hits.{run_none, run_more}
+use Rattle.laws.specs.Hits.{run}
 use Rattle.particles.specs.Particles.{particles}
-use Rattle.particles.specs.declared.particle.Particle.{Particle}
 use Rattle.gather.specs.Gather.{first_change, changes_from}
-use Rattle.gather.proofs.Columns.{taken_in_lem}
-use Rattle.gather.proofs.Gathering.{one_change}
-use Rattle.gather.proofs.Ranging.{serves, own, on}
 use Rattle.gather.proofs.grid_to_particle.gather_range.Given as goal
 
 abbrev pub invariant-loop-k : goal.invariant-loop-k
-invariant-loop-k l =     (l.k ≤ l.count) × (length l.pf ≡ length l.initial.pf) × (length l.pw ≡ length l.initial.pw)
+invariant-loop-k l = (l.k ≤ l.count) × (length l.pf ≡ length l.initial.pf) × (length l.pw ≡ length l.initial.pw)
     × (store l.pf l.pw ≡ run particles (changes_from (first_change l.cell_width l.ids (store l.nf l.nw) l.dt l.modified_eigenerosion) l.start l.k) (store l.initial.pf l.initial.pw))
 
 abbrev pub decreases-loop-k : goal.decreases-loop-k

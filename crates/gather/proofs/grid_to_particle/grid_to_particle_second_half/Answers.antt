@@ -1,5 +1,6 @@
 -- `gather::grid_to_particle::grid_to_particle_second_half` meets its contract.
-use Rattle.std.proofs.Common.{sym, ap, ◌∙◌, rules}
+use native.Mathlib.Omega.{arith}
+use Rattle.std.proofs.Common.{sym, ap, ◌∙◌}
 use Rattle.laws.proofs.Refusals.{settle_old}
 use Rattle.grid.specs.Answers.{refused}
 use Rattle.grid.proofs.Answers.{stops}
@@ -7,7 +8,7 @@ use Rattle.gather.proofs.Checking.{second_fitted}
 use Rattle.gather.proofs.grid_to_particle.grid_to_particle_second_half.Goals as goal
 
 pub returns-in_default : goal.returns-in_default
-returns-in_default c = (c.check_second_half-a.ensures, settle_old _ _ _ (stops c.check_second_half-a.result c.in_default.keys2))
+returns-in_default c = (c.check_second_half-a.ensures, settle_old _ _ _ (stops c.check_second_half-a.result (omega arith)))
 
 pub finish_particles-requires : goal.finish_particles-requires
 finish_particles-requires c =

@@ -1,5 +1,4 @@
 -- `gather::grid_to_particle::has_failed` meets its contract.
-use Rattle.std.proofs.Common.{rules}
 use Rattle.grid.proofs.Answers.{not_not}
 use Rattle.gather.specs.Transfer.{fails}
 use Rattle.gather.proofs.grid_to_particle.has_failed.Goals as goal

@@ -1,12 +1,9 @@
 -- `gather::grid_to_particle::take` meets its contract: the columns below i are taken from.
-use Rattle.std.proofs.Common.{◌≡◌, ℕ, suc, ◌+◌, ◌-◌, ◌≤◌, List, get_or, sym, ap, ◌∙◌, subst, ap₂, arith, rules}
-use lib.Ieee.{Float}
+use Rattle.std.proofs.Common.{◌≡◌, ◌-◌, ◌≤◌}
 use Rattle.numeric.specs.Axes.{axes}
 use Rattle.laws.specs.Store.{store}
-use Rattle.particles.specs.Blocks.{corner_in, corner_of}
-use Rattle.particles.proofs.Placing.{in_range_lem}
 use Rattle.gather.specs.Transfer.{nothing, taken_by}
-use Rattle.gather.specs.Gather.{over_columns, adding, taken_in, Serves}
+use Rattle.gather.specs.Gather.{over_columns, adding}
 use Rattle.gather.proofs.grid_to_particle.take.Given as goal
 
 abbrev pub invariant-loop-i : goal.invariant-loop-i

@@ -1,9 +1,6 @@
 -- `gather::grid_to_particle::take_column` meets its contract: the column's nodes below j are taken from.
-use Rattle.std.proofs.Common.{◌≡◌, suc, ◌+◌, ◌-◌, ◌≤◌, refl, ◌∙◌, arith, rules}
-use Rattle.numeric.specs.Axes.{axes}
-use Rattle.laws.specs.Store.{store}
-use Rattle.gather.specs.Transfer.{taken_by}
-use Rattle.gather.specs.Gather.{over_column, adding}
+use Rattle.std.proofs.Common.{◌≡◌, suc, ◌+◌, refl, ◌∙◌, arith}
+use Rattle.gather.specs.Gather.{over_column}
 use Rattle.gather.proofs.grid_to_particle.take_column.Goals as goal
 
 pub loop-j-init : goal.loop-j-init

@@ -1,5 +1,5 @@
 -- `gather::grid_to_particle::take_column` meets its contract: the column's nodes below j are taken from.
-use Rattle.std.proofs.Common.{◌≡◌, suc, ◌+◌, ◌-◌, ◌≤◌, refl, ◌∙◌, arith, rules}
+use Rattle.std.proofs.Common.{◌≡◌, ◌-◌, ◌≤◌}
 use Rattle.numeric.specs.Axes.{axes}
 use Rattle.laws.specs.Store.{store}
 use Rattle.gather.specs.Transfer.{taken_by}

@@ -1,5 +1,5 @@
 -- `gather::inner::check_first_half` meets its contract: the check of a stage, with the half's settings.
-use Rattle.std.proofs.Common.{◌&&◌, ◌∙◌, rules}
+use Rattle.std.proofs.Common.{◌&&◌, ◌∙◌}
 use mathlib.Core.Bool.{and-true}
 use Rattle.grid.specs.Table.{good_width, good_step}
 use Rattle.gather.specs.Gather.{first_check}

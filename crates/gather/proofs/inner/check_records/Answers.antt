@@ -1,5 +1,4 @@
 -- `gather::inner::check_records` meets its contract, number by number.
-use Rattle.std.proofs.Common.{rules}
 use Rattle.grid.proofs.Answers.{unless_end}
 use Rattle.particles.specs.Table.{judged, first_particle}
 use Rattle.gather.specs.Gather.{records_check}

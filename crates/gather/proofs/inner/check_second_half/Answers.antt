@@ -1,5 +1,5 @@
 -- `gather::inner::check_second_half` meets its contract: what is found of the call, then of its records.
-use Rattle.std.proofs.Common.{sym, ap, ◌∙◌, arith, rules}
+use Rattle.std.proofs.Common.{sym, ap, ◌∙◌, arith}
 use Rattle.laws.specs.Store.{store}
 use Rattle.grid.specs.Answers.{refused}
 use Rattle.grid.proofs.Answers.{stops}
@@ -16,7 +16,7 @@ returns-in_default c =
       ← c.check_limits.ensures,
       ← c.check_call-a.ensures,
     )
-    (stays _ _ (stops c.check_call-a.result c.in_default.keys2))
+    (stays _ _ (stops c.check_call-a.result (omega arith)))
 
 pub check_records-requires : goal.check_records-requires
 check_records-requires c =

@@ -1,6 +1,5 @@
 -- `gather::inner::holds_given` meets its contract.
 use mathlib.Core.Bool.{and-true}
-use Rattle.std.proofs.Common.{rules}
 use Rattle.gather.proofs.inner.holds_given.Goals as goal
 
 pub returns : goal.returns

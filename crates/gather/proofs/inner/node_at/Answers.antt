@@ -1,5 +1,5 @@
 -- `gather::inner::node_at` meets its contract: the number stands for a place of the nodes.
-use Rattle.std.proofs.Common.{sym, ap, ◌∙◌, arith, rules}
+use Rattle.std.proofs.Common.{sym, ap, ◌∙◌, arith}
 use Rattle.laws.specs.Store.{store}
 use Rattle.particles.proofs.Blocking.{one_more}
 use Rattle.gather.specs.Gather.{node_found}

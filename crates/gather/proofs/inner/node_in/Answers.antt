@@ -1,5 +1,4 @@
 -- `gather::inner::node_in` meets its contract: a block's places are those of nodes.
-use Rattle.std.proofs.Common.{rules}
 use Rattle.gather.proofs.Columns.{is_some}
 use Rattle.gather.proofs.inner.node_in.Goals as goal
 

@@ -1,5 +1,5 @@
 -- `gather::inner::place_of` meets its contract: what is above 0 stands for a place.
-use Rattle.std.proofs.Common.{◌≡◌, ℕ, zero, suc, ◌<◌, true, sym, ap, ◌∙◌, true≢false, arith, rules}
+use Rattle.std.proofs.Common.{◌≡◌, ℕ, zero, suc, ◌<◌, sym, ap, ◌∙◌, true≢false, arith}
 use Rattle.cells.specs.declared.Found.TheVariants.{Absent}
 use Rattle.particles.specs.Blocks.{found_at}
 use Rattle.particles.specs.Table.{is_at}

@@ -2,7 +2,6 @@
 use mathlib.Core.Path.{◌∙◌}
 use Prim.Native.Nat.{◌*◌}
 use native.Mathlib.Omega.{arith}
-use borrow.Author.Rules.{rules}
 use lib.Ieee.{nan}
 use Rattle.laws.specs.Store.{store}
 use Rattle.laws.proofs.Rows.{read_join, read_from_lem}

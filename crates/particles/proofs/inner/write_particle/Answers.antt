@@ -3,7 +3,6 @@ use mathlib.Core.Path.{refl, ap₂}
 use mathlib.Core.List.{[], ◌∷◌}
 use Prim.Native.Nat.{◌*◌}
 use native.Mathlib.Omega.{arith}
-use borrow.Author.Rules.{rules}
 use Rattle.laws.specs.Store.{store}
 use Rattle.laws.proofs.Rows.{write_then}
 use Rattle.particles.specs.Particles.{floats_per_particle, put_particle}

@@ -1,7 +1,6 @@
 -- `scatter::inner::check_scatter` meets its contract: the check of a stage, with scatter's settings.
 use mathlib.Core.Path.{◌∙◌}
 use mathlib.Core.Bool.{◌&&◌, and-true}
-use borrow.Author.Rules.{rules}
 use Rattle.numeric.specs.Axes.{axes}
 use Rattle.grid.specs.Table.{all, finite, good_width, good_step}
 use Rattle.scatter.specs.Scatter.{scatter_check}

@@ -1,5 +1,4 @@
 -- `scatter::inner::scatter_all` meets its contract: the full scatter's loops, for all of a scatter.
-use borrow.Author.Rules.{rules}
 use Rattle.scatter.specs.Scatter.{scattered}
 use Rattle.scatter.proofs.inner.scatter_all.Goals as goal
 

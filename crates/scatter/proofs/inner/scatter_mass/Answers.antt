@@ -1,5 +1,4 @@
 -- `scatter::inner::scatter_mass` meets its contract: the full scatter's loops, for mass alone.
-use borrow.Author.Rules.{rules}
 use Rattle.scatter.specs.Scatter.{mass_scattered}
 use Rattle.scatter.proofs.inner.scatter_mass.Goals as goal
 

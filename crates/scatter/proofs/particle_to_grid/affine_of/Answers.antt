@@ -1,5 +1,4 @@
 -- `scatter::particle_to_grid::affine_of` meets its contract: an entry at a time.
-use borrow.Author.Rules.{rules}
 use Rattle.scatter.proofs.particle_to_grid.affine_of.Goals as goal
 
 pub returns : goal.returns

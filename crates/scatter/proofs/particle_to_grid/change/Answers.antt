@@ -1,5 +1,4 @@
 -- `scatter::particle_to_grid::change` meets its contract, in the order of the definition.
-use borrow.Author.Rules.{rules}
 use mathlib.Core.List.{List}
 use mathlib.Core.Path.{ap}
 use lib.Ieee.{Float, nan}

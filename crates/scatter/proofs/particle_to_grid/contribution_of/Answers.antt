@@ -1,5 +1,4 @@
 -- `scatter::particle_to_grid::contribution_of` meets its contract, a part at a time.
-use borrow.Author.Rules.{rules}
 use Rattle.scatter.specs.Hit.{brought}
 use Rattle.scatter.proofs.particle_to_grid.contribution_of.Goals as goal
 

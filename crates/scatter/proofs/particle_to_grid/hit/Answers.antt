@@ -1,7 +1,6 @@
 -- `scatter::particle_to_grid::hit` meets its contract: the node at the place is read, changed and written back.
 use mathlib.Core.Path.{sym, ◌∙◌}
 use native.Mathlib.Omega.{arith}
-use borrow.Author.Rules.{rules}
 use Rattle.particles.proofs.Blocking.{one_more}
 use Rattle.scatter.proofs.Hitting.{there, nowhere}
 use Rattle.scatter.proofs.particle_to_grid.hit.Goals as goal

@@ -1,15 +1,11 @@
 -- `scatter::particle_to_grid::hit_column` meets its contract: the cells of the column below j are hit.
 use mathlib.Core.Path.{◌≡◌, ◌∙◌}
-use Prim.Native.Nat.{◌+◌, ◌*◌, ◌-◌, ◌≤◌}
+use Prim.Native.Nat.{◌+◌, ◌*◌}
 use native.Mathlib.Omega.{arith}
-use borrow.Author.Rules.{rules}
-use lib.ListN.{length}
 use Rattle.numeric.specs.Axes.{axes}
-use Rattle.laws.specs.Store.{store, Holds}
-use Rattle.laws.specs.Hits.{run, gather}
 use Rattle.laws.proofs.Hits.{run_none, run_more}
 use Rattle.cells.specs.Stencil.{step_at}
-use Rattle.grid.specs.Nodes.{node_form, nodes}
+use Rattle.grid.specs.Nodes.{nodes}
 use Rattle.particles.specs.Blocks.{block_side}
 use Rattle.scatter.specs.Hit.{changed_by}
 use Rattle.scatter.specs.Scatter.{cell_hits, column_hits}

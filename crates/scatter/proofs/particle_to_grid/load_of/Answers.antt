@@ -1,5 +1,4 @@
 -- `scatter::particle_to_grid::load_of` meets its contract: in each case.
-use borrow.Author.Rules.{rules}
 use Rattle.scatter.specs.Hit.{changed, weighed}
 use Rattle.scatter.proofs.particle_to_grid.load_of.Goals as goal
 

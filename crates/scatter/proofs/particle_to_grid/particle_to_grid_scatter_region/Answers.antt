@@ -1,7 +1,6 @@
 -- `scatter::particle_to_grid::particle_to_grid_scatter_region` meets its contract.
 use mathlib.Core.Path.{sym, ◌∙◌}
 use native.Mathlib.Omega.{arith}
-use borrow.Author.Rules.{rules}
 use Rattle.numeric.specs.Axes.{axes}
 use Rattle.laws.specs.Store.{store}
 use Rattle.laws.proofs.Refusals.{settle_old}
@@ -12,7 +11,7 @@ use Rattle.scatter.proofs.particle_to_grid.particle_to_grid_scatter_region.Goals
 pub returns-in_default : goal.returns-in_default
 returns-in_default c = (
   c.check_scatter-a.ensures ∙ rw c.check_place.ensures,
-  settle_old _ _ _ (stops c.check_scatter-a.result c.in_default.keys2),
+  settle_old _ _ _ (stops c.check_scatter-a.result (omega arith)),
 )
 
 pub scatter_at-requires : goal.scatter_at-requires

@@ -1,13 +1,9 @@
 -- `scatter::particle_to_grid::scatter_colors` meets its contract: the colours before this one are scattered.
 use mathlib.Core.Path.{◌≡◌, ◌∙◌}
-use Prim.Native.Nat.{◌*◌, ◌-◌, ◌≤◌}
 use native.Mathlib.Omega.{arith}
-use borrow.Author.Rules.{rules}
-use lib.ListN.{length}
-use Rattle.laws.specs.Store.{store, Holds}
-use Rattle.laws.specs.Hits.{run, gather}
+use Rattle.laws.specs.Store.{store}
 use Rattle.laws.proofs.Hits.{run_none, run_more}
-use Rattle.grid.specs.Nodes.{node_form, nodes, region_cells}
+use Rattle.grid.specs.Nodes.{nodes}
 use Rattle.scatter.specs.Hit.{changed_for}
 use Rattle.scatter.specs.Scatter.{colours, colour_hits, scatter_hits}
 use Rattle.particles.proofs.Staging.{still_ready}

@@ -1,17 +1,14 @@
 -- `scatter::particle_to_grid::scatter_particle` meets its contract: the columns of the stencil below i are hit.
 use mathlib.Core.List.{List}
 use mathlib.Core.Path.{◌≡◌, ap, ◌∙◌}
-use Prim.Native.Nat.{ℕ, ◌-◌, ◌≤◌}
+use Prim.Native.Nat.{ℕ}
 use native.Mathlib.Omega.{arith}
-use borrow.Author.Rules.{rules}
 use lib.Ieee.{Float}
-use lib.ListN.{length, get_or}
+use lib.ListN.{get_or}
 use Rattle.numeric.specs.Axes.{axes}
-use Rattle.laws.specs.Store.{store, Holds}
-use Rattle.laws.specs.Hits.{run, gather}
 use Rattle.laws.proofs.Hits.{run_none, run_more}
 use Rattle.cells.specs.Stencil.{step_at}
-use Rattle.grid.specs.Nodes.{node_form, nodes}
+use Rattle.grid.specs.Nodes.{nodes}
 use Rattle.particles.specs.Blocks.{corner_in, corner_of}
 use Rattle.particles.proofs.Placing.{in_range_lem}
 use Rattle.scatter.specs.Hit.{changed_for, changed_by}

@@ -1,26 +1,18 @@
 -- `scatter::particle_to_grid::scatter_particle` meets its contract: the columns of the stencil below i are hit.
-use mathlib.Core.List.{List}
-use mathlib.Core.Path.{◌≡◌, ap, ◌∙◌}
-use Prim.Native.Nat.{ℕ, ◌-◌, ◌≤◌}
-use native.Mathlib.Omega.{arith}
-use borrow.Author.Rules.{rules}
-use lib.Ieee.{Float}
-use lib.ListN.{length, get_or}
+use mathlib.Core.Path.{◌≡◌}
+use Prim.Native.Nat.{◌-◌, ◌≤◌}
+use lib.ListN.{length}
 use Rattle.numeric.specs.Axes.{axes}
 use Rattle.laws.specs.Store.{store, Holds}
 use Rattle.laws.specs.Hits.{run, gather}
-use Rattle.laws.proofs.Hits.{run_none, run_more}
 use Rattle.cells.specs.Stencil.{step_at}
 use Rattle.grid.specs.Nodes.{node_form, nodes}
-use Rattle.particles.specs.Blocks.{corner_in, corner_of}
-use Rattle.particles.proofs.Placing.{in_range_lem}
-use Rattle.scatter.specs.Hit.{changed_for, changed_by}
-use Rattle.scatter.specs.Scatter.{column_hits, block_hits}
-use Rattle.scatter.proofs.Hitting.{among}
+use Rattle.scatter.specs.Hit.{changed_by}
+use Rattle.scatter.specs.Scatter.{column_hits}
 use Rattle.scatter.proofs.particle_to_grid.scatter_particle.Given as goal
 
 abbrev pub invariant-loop-i : goal.invariant-loop-i
-invariant-loop-i l =     (l.i ≤ 3) × Holds node_form (store l.nf l.nw) (length l.initial.nw)
+invariant-loop-i l = (l.i ≤ 3) × Holds node_form (store l.nf l.nw) (length l.initial.nw)
     × (store l.nf l.nw ≡ run nodes (gather (λ i. column_hits l.block (changed_by l.cell_width (axes l.dir) l.load) l.corner (step_at i)) l.i) (store l.initial.nf l.initial.nw))
 
 abbrev pub decreases-loop-i : goal.decreases-loop-i

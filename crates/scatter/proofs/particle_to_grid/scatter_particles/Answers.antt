@@ -2,13 +2,10 @@
 use mathlib.Core.Path.{◌≡◌, sym, ap, ◌∙◌, subst}
 use Prim.Native.Nat.{ℕ, ◌+◌, ◌-◌, ◌≤◌, ◌<◌}
 use native.Mathlib.Omega.{arith}
-use borrow.Author.Rules.{rules}
 use lib.Ieee.{Float}
-use lib.ListN.{length}
-use Rattle.laws.specs.Store.{Store, store, Holds}
-use Rattle.laws.specs.Hits.{run, gather}
+use Rattle.laws.specs.Store.{Store, store}
 use Rattle.laws.proofs.Hits.{run_none, run_left}
-use Rattle.grid.specs.Nodes.{node_form, nodes}
+use Rattle.grid.specs.Nodes.{nodes}
 use Rattle.particles.specs.Blocks.{corner_of}
 use Rattle.particles.specs.Particles.{particle_at}
 use Rattle.particles.specs.Table.{OnGrid}

@@ -1,6 +1,5 @@
 -- `scatter::particle_to_grid::unload` meets its contract: in each case.
 use mathlib.Core.Path.{◌∙◌}
-use borrow.Author.Rules.{rules}
 use Rattle.scatter.proofs.particle_to_grid.unload.Goals as goal
 
 pub returns-in-All : goal.returns-in-All

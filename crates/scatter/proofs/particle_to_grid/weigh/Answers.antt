@@ -1,5 +1,4 @@
 -- `scatter::particle_to_grid::weigh` meets its contract, in the order of the definition.
-use borrow.Author.Rules.{rules}
 use Rattle.scatter.specs.Hit.{weighed_node}
 use Rattle.scatter.proofs.particle_to_grid.weigh.Goals as goal
 

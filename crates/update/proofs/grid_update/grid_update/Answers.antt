@@ -1,7 +1,7 @@
 -- `update::grid_update::grid_update` meets its contract: what is not refused has a handling that is known.
 use mathlib.Core.Path.{sym, ap, ◌∙◌}
 use mathlib.Core.Bool.{true≢false}
-use borrow.Author.Rules.{rules}
+use native.Mathlib.Omega.{arith}
 use Rattle.laws.proofs.Refusals.{settle_old}
 use Rattle.grid.specs.Answers.{refused}
 use Rattle.grid.proofs.Answers.{stops}
@@ -11,7 +11,7 @@ use Rattle.update.proofs.Checking.{shown}
 use Rattle.update.proofs.grid_update.grid_update.Goals as goal
 
 pub returns-in_default : goal.returns-in_default
-returns-in_default c = (c.check_update-a.ensures, settle_old _ _ _ (stops c.check_update-a.result c.in_default.keys2))
+returns-in_default c = (c.check_update-a.ensures, settle_old _ _ _ (stops c.check_update-a.result (omega arith)))
 
 pub returns-in_default-handling_of : goal.returns-in_default-handling_of
 returns-in_default-handling_of c =

@@ -1,5 +1,4 @@
 -- `update::grid_update::handle` meets its contract.
-use borrow.Author.Rules.{rules}
 use Rattle.update.specs.Boundary.{handled}
 use Rattle.update.proofs.grid_update.handle.Goals as goal
 

@@ -1,6 +1,5 @@
 -- `update::grid_update::lock_node` meets its contract.
 use mathlib.Core.Path.{ap, ap₂}
-use borrow.Author.Rules.{rules}
 use Rattle.numeric.specs.Axes.{vector}
 use Rattle.numeric.specs.declared.dim2.Vector.{Vector}
 use Rattle.update.specs.Update.{locked_node}

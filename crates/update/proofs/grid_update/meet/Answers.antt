@@ -1,5 +1,4 @@
 -- `update::grid_update::meet` meets its contract.
-use borrow.Author.Rules.{rules}
 use Rattle.update.specs.Boundary.{met}
 use Rattle.update.proofs.grid_update.meet.Goals as goal
 

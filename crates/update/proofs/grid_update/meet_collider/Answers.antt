@@ -1,7 +1,6 @@
 -- `update::grid_update::meet_collider` meets its contract.
 use mathlib.Core.Path.{ap, ap₂}
 use Prim.Native.Nat.{ℕ}
-use borrow.Author.Rules.{rules}
 use Rattle.numeric.specs.Axes.{vector}
 use Rattle.numeric.specs.declared.dim2.Vector.{Vector}
 use Rattle.update.specs.Boundary.{collided}

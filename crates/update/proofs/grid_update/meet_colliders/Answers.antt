@@ -1,10 +1,7 @@
 -- `update::grid_update::meet_colliders` meets its contract: the node has met the first j colliders.
 use mathlib.Core.Path.{◌≡◌, refl, ◌∙◌}
-use mathlib.Core.List.{[], ◌∷◌}
-use Prim.Native.Nat.{suc, ◌+◌, ◌-◌, ◌≤◌}
+use Prim.Native.Nat.{suc, ◌+◌}
 use native.Mathlib.Omega.{arith}
-use borrow.Author.Rules.{rules}
-use Rattle.laws.specs.Store.{store}
 use Rattle.update.specs.Update.{after_colliders}
 use Rattle.update.proofs.grid_update.meet_colliders.Goals as goal
 

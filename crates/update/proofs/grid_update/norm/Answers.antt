@@ -1,5 +1,4 @@
 -- `update::grid_update::norm` meets its contract.
-use borrow.Author.Rules.{rules}
 use Rattle.update.proofs.grid_update.norm.Goals as goal
 
 pub returns : goal.returns

@@ -1,5 +1,4 @@
 -- `update::grid_update::oppose` meets its contract.
-use borrow.Author.Rules.{rules}
 use Rattle.update.specs.Boundary.{against}
 use Rattle.update.proofs.grid_update.oppose.Goals as goal
 

@@ -1,5 +1,4 @@
 -- `update::grid_update::rub` meets its contract.
-use borrow.Author.Rules.{rules}
 use Rattle.update.proofs.grid_update.rub.Goals as goal
 
 pub returns-in-Inside : goal.returns-in-Inside

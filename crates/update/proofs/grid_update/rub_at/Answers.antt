@@ -1,7 +1,6 @@
 -- `update::grid_update::rub_at` meets its contract.
 use mathlib.Core.Path.{sym, ap, ap₂, ◌∙◌}
 use mathlib.Core.List.{List}
-use borrow.Author.Rules.{rules}
 use lib.Ieee.{Float}
 use Rattle.numeric.specs.Axes.{axes, vector}
 use Rattle.numeric.specs.declared.dim2.Vector.{Vector}

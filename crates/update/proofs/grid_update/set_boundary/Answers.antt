@@ -1,5 +1,4 @@
 -- `update::grid_update::set_boundary` meets its contract.
-use borrow.Author.Rules.{rules}
 use borrow.Author.Tests.{eq-eqb, ne_eqb}
 use Rattle.update.proofs.grid_update.set_boundary.Goals as goal
 

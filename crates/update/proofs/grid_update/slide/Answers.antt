@@ -1,5 +1,4 @@
 -- `update::grid_update::slide` meets its contract.
-use borrow.Author.Rules.{rules}
 use Rattle.update.specs.Boundary.{slid}
 use Rattle.update.proofs.grid_update.slide.Goals as goal
 

@@ -1,5 +1,4 @@
 -- `update::grid_update::stick` meets its contract.
-use borrow.Author.Rules.{rules}
 use Rattle.update.proofs.grid_update.stick.Goals as goal
 
 pub returns-in-Inside : goal.returns-in-Inside

@@ -1,5 +1,4 @@
 -- `update::grid_update::try_new_and_get` meets its contract.
-use borrow.Author.Rules.{rules}
 use Rattle.update.proofs.grid_update.try_new_and_get.Goals as goal
 
 pub returns-then-least-dot : goal.returns-then-least-dot

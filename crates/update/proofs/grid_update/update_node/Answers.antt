@@ -1,5 +1,4 @@
 -- `update::grid_update::update_node` meets its contract.
-use borrow.Author.Rules.{rules}
 use Rattle.update.proofs.grid_update.update_node.Goals as goal
 
 pub returns : goal.returns

@@ -1,13 +1,11 @@
 -- `update::grid_update::update_regions` meets its contract: r regions are updated.
 use mathlib.Core.Path.{◌≡◌, ◌∙◌}
-use Prim.Native.Nat.{◌*◌, ◌-◌, ◌≤◌}
 use native.Mathlib.Omega.{arith}
 use borrow.Author.Rules.{rules}
 use lib.ListN.{length}
-use Rattle.laws.specs.Store.{store, Holds}
-use Rattle.laws.specs.Hits.{run, gather}
+use Rattle.laws.specs.Store.{store}
 use Rattle.laws.proofs.Hits.{run_none, run_more}
-use Rattle.grid.specs.Nodes.{node_form, nodes, region_cells}
+use Rattle.grid.specs.Nodes.{nodes}
 use Rattle.update.specs.Update.{region_updates, updates}
 use Rattle.update.proofs.Checking.{still_ready}
 use Rattle.update.proofs.grid_update.update_regions.Goals as goal

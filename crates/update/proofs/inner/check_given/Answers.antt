@@ -1,5 +1,4 @@
 -- `update::inner::check_given` meets its contract, number by number.
-use borrow.Author.Rules.{rules}
 use Rattle.grid.proofs.Answers.{unless_end}
 use Rattle.update.specs.Update.{given}
 use Rattle.update.proofs.inner.check_given.Goals as goal

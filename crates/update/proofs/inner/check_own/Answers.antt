@@ -1,5 +1,4 @@
 -- `update::inner::check_own` meets its contract.
-use borrow.Author.Rules.{rules}
 use borrow.Author.Tests.{lt-ltb, le-ltb}
 use native.Mathlib.Omega.{arith}
 use Rattle.update.proofs.inner.check_own.Goals as goal

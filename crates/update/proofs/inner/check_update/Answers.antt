@@ -1,5 +1,5 @@
 -- `update::inner::check_update` meets its contract: what is found of the call, then of what is given.
-use borrow.Author.Rules.{rules}
+use native.Mathlib.Omega.{arith}
 use Rattle.grid.proofs.Answers.{stops}
 use Rattle.grid.proofs.Steps.{stays, passes}
 use Rattle.update.proofs.Checking.{check_is}
@@ -18,7 +18,7 @@ returns-in_default c =
       ← c.check_own.ensures,
       ← c.check_call-a.ensures,
     )
-    (stays _ _ (stops c.check_call-a.result c.in_default.keys2))
+    (stays _ _ (stops c.check_call-a.result (omega arith)))
 
 pub returns : goal.returns
 returns c =

@@ -1,5 +1,4 @@
 -- `update::inner::holds_projections` meets its contract.
-use borrow.Author.Rules.{rules}
 use mathlib.Core.Bool.{and-true}
 use Rattle.update.proofs.inner.holds_projections.Goals as goal
 

@@ -2,25 +2,17 @@
 use mathlib.Core.List.{List}
 use mathlib.Core.Logic.{⊎_elim}
 use mathlib.Core.Path.{◌≡◌, refl, sym, ap, ◌∙◌}
-use Prim.Native.Nat.{ℕ, ◌+◌, ◌*◌, ◌-◌, ◌/◌, ◌%◌, ◌≤◌, ◌<◌}
+use Prim.Native.Nat.{ℕ, ◌+◌, ◌*◌, ◌/◌, ◌%◌, ◌≤◌, ◌<◌}
 use native.Mathlib.Nat.{eq-or-lt_of_le}
 use native.Mathlib.Omega.{arith}
-use borrow.Author.Rules.{rules}
 use lib.ListN.{length, get_or, set, length-set}
 use lib.Seq.{get_or-set_same, get_or-set_other}
 use Rattle.cells.specs.declared.Found.{Found}
 use Rattle.cells.specs.declared.Found.TheVariants.{Absent}
-use Rattle.particles.specs.Places.{of_region}
 use Rattle.particles.specs.Blocks.{block_side, block_cells, found_at}
 use Rattle.particles.proofs.Blocking.{in_block, reach_in, reached_in}
+use Rattle.particles.proofs.inner.blocks.block_of.Invariants.{at, Filled}
 use Rattle.particles.proofs.inner.blocks.block_of.Goals as goal
-
--- the place at k, by what is reached
-abbrev at : List Found → ℕ → Found
-at reach k = of_region (get_or reach (k % block_side / 4 + 2 * (k / block_side / 4)) Absent) (k % block_side % 4 + 4 * (k / block_side % 4))
-
-abbrev Filled : List Found → List ℕ → ℕ → Type 0
-Filled reach block k = (length block ≡ block_cells) × ((j : ℕ) → j < k → found_at (get_or block j 0) ≡ at reach j)
 
 one_more : (reach : List Found) (block : List ℕ) (k f : ℕ) → k < block_cells → found_at f ≡ at reach k → Filled reach block k → Filled reach (set block k f) (k + 1)
 one_more reach block k f l e filled = (
@@ -40,7 +32,7 @@ place_in-requires c =
     (omega arith, omega arith, ap length c.reach_of-reach.ensures, λ k e there. omega (arith, c.requires.0, reach_in c.args.ids.now c.args.region_id k e (ap (λ (l : List Found). get_or l k Absent) (sym c.reach_of-reach.ensures) ∙ there)))
 
 pub numbered-requires : goal.numbered-requires
-numbered-requires c =
+numbered-requires c e there =
     let k = c.loop-k.k in
     omega (arith, c.requires.0, reached_in c.args.ids.now c.args.region_id (k % block_side / 4 + 2 * (k / block_side / 4)) (k % block_side % 4 + 4 * (k / block_side % 4)) c.reach_of-reach.result _ e c.place_in.ensures (omega arith) c.reach_of-reach.ensures there)
 
@@ -48,7 +40,7 @@ pub loop-k-preserved : goal.loop-k-preserved
 loop-k-preserved c = (omega arith, one_more c.reach_of-reach.result c.loop-k.block c.loop-k.k _ (omega arith) (c.numbered.ensures ∙ c.place_in.ensures) c.loop-k.invariant.1)
 
 pub returns : goal.returns
-returns c =
+returns c x y l u =
     let i = c.loop-k.invariant in
     let d : (x + block_side * y) % block_side ≡ x = omega arith in
     let q : (x + block_side * y) / block_side ≡ y = omega arith in

@@ -2,7 +2,6 @@
 use mathlib.Core.Path.{◌≡◌}
 use Prim.Native.Nat.{ℕ, zero, suc, ◌-◌}
 use native.Mathlib.Omega.{arith}
-use borrow.Author.Rules.{rules}
 use Rattle.cells.specs.declared.Found.TheVariants.{At}
 use Rattle.particles.specs.Blocks.{found_at}
 use Rattle.particles.proofs.inner.blocks.found_at.Goals as goal

@@ -1,5 +1,4 @@
 -- `particles::inner::blocks::reach_of` meets its contract: the shifts are those of whole regions.
-use borrow.Author.Rules.{rules}
 use Rattle.packing.proofs.Laws.{plane}
 use Rattle.particles.proofs.inner.blocks.reach_of.Goals as goal
 

@@ -1,13 +1,11 @@
 -- `particles::inner::checks::are_there` meets its contract: the nodes below k are there.
-use mathlib.Core.Bool.{true, true≢false}
+use mathlib.Core.Bool.{true≢false}
 use mathlib.Core.Logic.{⊎_elim}
 use mathlib.Core.Path.{◌≡◌, sym, ap, ◌∙◌}
-use Prim.Native.Nat.{ℕ, ◌+◌, ◌*◌, ◌-◌, ◌/◌, ◌%◌, ◌≤◌, ◌<◌}
+use Prim.Native.Nat.{◌+◌, ◌*◌, ◌/◌, ◌%◌, ◌≤◌, ◌<◌}
 use native.Mathlib.Nat.{eq-or-lt_of_le}
 use native.Mathlib.Omega.{arith}
-use borrow.Author.Rules.{rules}
 use Rattle.particles.specs.Table.{is_at}
-use Rattle.particles.specs.Blocks.{place_at}
 use Rattle.particles.proofs.inner.checks.are_there.Goals as goal
 
 pub loop-k-init : goal.loop-k-init
@@ -17,7 +15,7 @@ pub bounds-block-corner : goal.bounds-block-corner
 bounds-block-corner c = omega (arith, c.requires)
 
 pub returns-in_default : goal.returns-in_default
-returns-in_default c = absurd (true≢false (sym e))
+returns-in_default c e = absurd (true≢false (sym e))
 
 pub loop-k-preserved : goal.loop-k-preserved
 loop-k-preserved c =
@@ -31,7 +29,7 @@ loop-k-preserved c =
     )
 
 pub returns : goal.returns
-returns c =
+returns c e x y l u =
     let at : (x + 3 * y) % 3 ≡ x = omega arith in
     let row : (x + 3 * y) / 3 ≡ y = omega arith in
     let there = c.loop-k.invariant.1 (x + 3 * y) (omega arith) in

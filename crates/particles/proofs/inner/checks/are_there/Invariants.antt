@@ -1,11 +1,7 @@
 -- `particles::inner::checks::are_there` meets its contract: the nodes below k are there.
-use mathlib.Core.Bool.{true, true≢false}
-use mathlib.Core.Logic.{⊎_elim}
-use mathlib.Core.Path.{◌≡◌, sym, ap, ◌∙◌}
-use Prim.Native.Nat.{ℕ, ◌+◌, ◌*◌, ◌-◌, ◌/◌, ◌%◌, ◌≤◌, ◌<◌}
-use native.Mathlib.Nat.{eq-or-lt_of_le}
-use native.Mathlib.Omega.{arith}
-use borrow.Author.Rules.{rules}
+use mathlib.Core.Bool.{true}
+use mathlib.Core.Path.{◌≡◌}
+use Prim.Native.Nat.{ℕ, ◌-◌, ◌/◌, ◌%◌, ◌≤◌, ◌<◌}
 use Rattle.particles.specs.Table.{is_at}
 use Rattle.particles.specs.Blocks.{place_at}
 use Rattle.particles.proofs.inner.checks.are_there.Given as goal

@@ -1,12 +1,9 @@
 -- `particles::inner::checks::check_cells` meets its contract: before place k every region is listed.
-use mathlib.Core.Path.{◌≡◌, refl, sym, ap, ◌∙◌}
+use mathlib.Core.Path.{◌≡◌}
 use Prim.Native.Nat.{◌-◌, ◌≤◌}
-use native.Mathlib.Omega.{arith}
-use borrow.Author.Rules.{rules}
 use lib.ListN.{length, drop}
 use Rattle.grid.specs.Table.{all}
-use Rattle.particles.specs.Table.{is_at, listed}
-use Rattle.particles.proofs.Every.{every_stop, every_go, every_end}
+use Rattle.particles.specs.Table.{listed}
 use Rattle.particles.proofs.inner.checks.check_cells.Given as goal
 
 abbrev pub invariant-loop-k : goal.invariant-loop-k

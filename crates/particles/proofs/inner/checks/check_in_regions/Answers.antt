@@ -1,24 +1,16 @@
 -- `particles::inner::checks::check_in_regions` meets its contract: before region r every particle is in its region.
 use mathlib.Core.Path.{◌≡◌, sym, ap, ◌∙◌}
-use mathlib.Core.List.{List}
-use Prim.Native.Nat.{ℕ, ◌-◌, ◌≤◌}
+use Prim.Native.Nat.{◌-◌}
 use native.Mathlib.Omega.{arith}
-use borrow.Author.Rules.{rules}
-use lib.Ieee.{Float}
-use lib.ListN.{length, get_or}
-use Rattle.laws.specs.Store.{Store, store}
+use lib.ListN.{length}
+use Rattle.laws.specs.Store.{store}
 use Rattle.laws.proofs.Refusals.{first_stop, first_go, first_end}
-use Rattle.grid.specs.Answers.{refused, first_of}
-use Rattle.grid.specs.Table.{start_of, count_of}
-use Rattle.grid.specs.declared.Answer.{Answer}
+use Rattle.grid.specs.Answers.{refused}
 use Rattle.grid.specs.declared.Answer.TheVariants.{Done}
-use Rattle.grid.specs.declared.Rule.TheVariants.{OutOfRegion}
 use Rattle.grid.proofs.Answers.{stops}
-use Rattle.particles.specs.Table.{first_particle, out_of_regions}
+use Rattle.particles.specs.Table.{out_of_regions}
+use Rattle.particles.proofs.inner.checks.check_in_regions.Invariants.{judge}
 use Rattle.particles.proofs.inner.checks.check_in_regions.Goals as goal
-
-abbrev judge : Float → List ℕ → List ℕ → Store → ℕ → Answer
-judge h ids ranges s r = first_particle OutOfRegion h ids (get_or ids r 0) s (start_of ranges r) (count_of ranges r)
 
 pub loop-r-init : goal.loop-r-init
 loop-r-init c = (omega arith, let e : length c.args.ids.now - 0 ≡ length c.args.ids.now = omega arith in rw e)
@@ -32,7 +24,7 @@ returns-in_default c =
     let a = c.args in
     sym (c.loop-r.invariant.1
     ∙ first_stop refused Done (judge a.h a.ids.now a.ranges.now (store a.pf.now a.pw.now)) _ _ c.first_particle-a.result (omega arith)
-    (sym c.first_particle-a.ensures) (stops c.first_particle-a.result c.in_default.keys2))
+    (sym c.first_particle-a.ensures) (stops c.first_particle-a.result (omega arith)))
 
 pub loop-r-preserved : goal.loop-r-preserved
 loop-r-preserved c =

@@ -1,5 +1,4 @@
 -- `particles::inner::checks::check_lists` meets its contract.
-use borrow.Author.Rules.{rules}
 use Rattle.particles.proofs.Staging.{by_kind}
 use Rattle.particles.proofs.inner.checks.check_lists.Goals as goal
 

@@ -1,6 +1,5 @@
 -- `particles::inner::checks::check_particles` meets its contract: at once, or number by number.
 use mathlib.Core.Path.{sym}
-use borrow.Author.Rules.{rules}
 use Rattle.grid.proofs.Answers.{unless_end}
 use Rattle.particles.specs.Table.{checked}
 use Rattle.particles.proofs.inner.checks.check_particles.Goals as goal

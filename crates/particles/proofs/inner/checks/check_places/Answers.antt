@@ -1,6 +1,6 @@
 -- `particles::inner::checks::check_places` meets its contract, number by number.
 use mathlib.Core.Path.{sym, ap, ◌∙◌}
-use borrow.Author.Rules.{rules}
+use native.Mathlib.Omega.{arith}
 use Rattle.grid.specs.Answers.{refused}
 use Rattle.grid.proofs.Answers.{stops, unless_end}
 use Rattle.grid.proofs.Passing.{covers}
@@ -9,7 +9,7 @@ use Rattle.particles.proofs.inner.checks.check_places.Goals as goal
 
 pub returns-in_default : goal.returns-in_default
 unfolding placed
-returns-in_default c = rw (← c.check_regions-a.ensures, stops c.check_regions-a.result c.in_default.keys2)
+returns-in_default c = rw (← c.check_regions-a.ensures, stops c.check_regions-a.result (omega arith))
 
 pub returns-in_default-b : goal.returns-in_default-b
 unfolding placed
@@ -18,7 +18,7 @@ returns-in_default-b c =
       ← c.check_regions-a.ensures,
       c.in-Done.is,
       ← c.check_cover-b.ensures,
-      stops c.check_cover-b.result c.in_default-b.keys2,
+      stops c.check_cover-b.result (omega arith),
     )
 
 pub returns-in_default-c : goal.returns-in_default-c
@@ -30,7 +30,7 @@ returns-in_default-c c =
       ← c.check_cover-b.ensures,
       c.in-Done-b.is,
       ← c.first_particle-c.ensures,
-      stops c.first_particle-c.result c.in_default-c.keys2,
+      stops c.first_particle-c.result (omega arith),
     )
 
 pub check_in_regions-d-requires : goal.check_in_regions-d-requires
@@ -48,7 +48,7 @@ returns-in_default-d c =
       ← c.first_particle-c.ensures,
       c.in-Done-c.is,
       ← c.check_in_regions-d.ensures,
-      stops c.check_in_regions-d.result c.in_default-d.keys2,
+      stops c.check_in_regions-d.result (omega arith),
     )
 
 pub returns : goal.returns

@@ -2,7 +2,6 @@
 use mathlib.Core.Path.{sym, ◌∙◌}
 use mathlib.Core.Bool.{and-true}
 use native.Mathlib.Omega.{arith}
-use borrow.Author.Rules.{rules}
 use Rattle.laws.specs.Store.{store}
 use Rattle.grid.specs.Table.{limits}
 use Rattle.grid.proofs.Answers.{stops}
@@ -13,7 +12,7 @@ use Rattle.particles.proofs.inner.checks.check_stage.Goals as goal
 pub returns-in_default : goal.returns-in_default
 returns-in_default c =
     rw (check_is, and-true c.args.settings, ← c.check_lists-a.ensures)
-    (stays _ _ (stops c.check_lists-a.result c.in_default.keys2))
+    (stays _ _ (stops c.check_lists-a.result (omega arith)))
 
 pub check_particles-requires : goal.check_particles-requires
 check_particles-requires c =

@@ -1,5 +1,4 @@
 -- `particles::inner::checks::check_stencil` meets its contract.
-use borrow.Author.Rules.{rules}
 use Rattle.particles.specs.Table.{unlisted}
 use Rattle.particles.proofs.inner.checks.check_stencil.Goals as goal
 

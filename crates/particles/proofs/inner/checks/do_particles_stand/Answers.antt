@@ -1,14 +1,10 @@
 -- `particles::inner::checks::do_particles_stand` meets its contract: all but those that are left stand.
-use mathlib.Core.Bool.{true, false, true≢false}
+use mathlib.Core.Bool.{true≢false}
 use mathlib.Core.Logic.{⊎_elim}
 use mathlib.Core.Path.{◌≡◌, sym, subst}
-use Prim.Native.Nat.{ℕ, ◌+◌, ◌-◌, ◌≤◌, ◌<◌}
+use Prim.Native.Nat.{◌+◌, ◌-◌, ◌≤◌, ◌<◌}
 use native.Mathlib.Nat.{eq-or-lt_of_le}
 use native.Mathlib.Omega.{arith}
-use borrow.Author.Rules.{rules}
-use Rattle.laws.specs.Store.{store}
-use Rattle.grid.proofs.Answers.{not_false}
-use Rattle.particles.specs.Particles.{particle_at}
 use Rattle.particles.specs.Blocks.{Stands}
 use Rattle.particles.specs.declared.particle.Particle.{Particle}
 use Rattle.particles.proofs.inner.checks.do_particles_stand.Goals as goal
@@ -20,14 +16,14 @@ pub read_particle-requires : goal.read_particle-requires
 read_particle-requires c = let p = c.requires in (omega (arith, p), omega (arith, p))
 
 pub returns-then-not-does_particle_stand : goal.returns-then-not-does_particle_stand
-returns-then-not-does_particle_stand c = absurd (true≢false (sym e))
+returns-then-not-does_particle_stand c e = absurd (true≢false (sym e))
 
 pub loop-left-preserved : goal.loop-left-preserved
 loop-left-preserved c =
     let l = c.loop-left in
     let a = c.args in
     let p = a.start + a.count - l.left in
-    let stands = subst (λ (q : Particle). Stands a.h a.corner.x a.corner.y q) c.read_particle.ensures (c.does_particle_stand.ensures (not_false _ c.if-not-does_particle_stand.false)) in (
+    let stands = subst (λ (q : Particle). Stands a.h a.corner.x a.corner.y q) c.read_particle.ensures (c.does_particle_stand.ensures c.if-not-does_particle_stand.false) in (
       omega arith,
       λ k u v.
           ⊎_elim
@@ -37,4 +33,4 @@ loop-left-preserved c =
     )
 
 pub returns : goal.returns
-returns c = c.loop-left.invariant.1 k l (omega arith)
+returns c e k l u = c.loop-left.invariant.1 k l (omega arith)

@@ -1,20 +1,12 @@
 -- `particles::inner::checks::do_particles_stand` meets its contract: all but those that are left stand.
-use mathlib.Core.Bool.{true, false, true≢false}
-use mathlib.Core.Logic.{⊎_elim}
-use mathlib.Core.Path.{◌≡◌, sym, subst}
-use Prim.Native.Nat.{ℕ, ◌+◌, ◌-◌, ◌≤◌, ◌<◌}
-use native.Mathlib.Nat.{eq-or-lt_of_le}
-use native.Mathlib.Omega.{arith}
-use borrow.Author.Rules.{rules}
+use Prim.Native.Nat.{ℕ, ◌+◌, ◌≤◌, ◌<◌}
 use Rattle.laws.specs.Store.{store}
-use Rattle.grid.proofs.Answers.{not_false}
 use Rattle.particles.specs.Particles.{particle_at}
 use Rattle.particles.specs.Blocks.{Stands}
-use Rattle.particles.specs.declared.particle.Particle.{Particle}
 use Rattle.particles.proofs.inner.checks.do_particles_stand.Given as goal
 
 abbrev pub invariant-loop-left : goal.invariant-loop-left
-invariant-loop-left l =     (l.left ≤ l.count) × ((k : ℕ) → l.start ≤ k → k + l.left < l.start + l.count → Stands l.h l.corner.x l.corner.y (particle_at (store l.pf l.pw) k))
+invariant-loop-left l = (l.left ≤ l.count) × ((k : ℕ) → l.start ≤ k → k + l.left < l.start + l.count → Stands l.h l.corner.x l.corner.y (particle_at (store l.pf l.pw) k))
 
 abbrev pub decreases-loop-left : goal.decreases-loop-left
 decreases-loop-left l = l.left

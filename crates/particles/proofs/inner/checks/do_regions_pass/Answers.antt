@@ -1,16 +1,10 @@
 -- `particles::inner::checks::do_regions_pass` meets its contract: before region r every particle passes.
-use mathlib.Core.Bool.{true, true≢false}
+use mathlib.Core.Bool.{true≢false}
 use mathlib.Core.Logic.{⊎_elim}
 use mathlib.Core.Path.{◌≡◌, sym}
-use Prim.Native.Nat.{ℕ, ◌-◌, ◌≤◌, ◌<◌}
+use Prim.Native.Nat.{◌≤◌, ◌<◌}
 use native.Mathlib.Nat.{eq-or-lt_of_le}
 use native.Mathlib.Omega.{arith}
-use borrow.Author.Rules.{rules}
-use lib.ListN.{length, get_or}
-use Rattle.laws.specs.Store.{store}
-use Rattle.grid.specs.Table.{start_of, count_of}
-use Rattle.grid.proofs.Answers.{not_false}
-use Rattle.particles.specs.Table.{AllPass}
 use Rattle.particles.proofs.inner.checks.do_regions_pass.Goals as goal
 
 pub loop-r-init : goal.loop-r-init
@@ -24,7 +18,7 @@ does_region_pass-requires c =
     (p.1.whole r (omega arith), omega (arith, within, p.3), omega (arith, within, p.4))
 
 pub returns-then-not-does_region_pass : goal.returns-then-not-does_region_pass
-returns-then-not-does_region_pass c = absurd (true≢false (sym e))
+returns-then-not-does_region_pass c e = absurd (true≢false (sym e))
 
 pub loop-r-preserved : goal.loop-r-preserved
 loop-r-preserved c =
@@ -32,10 +26,10 @@ loop-r-preserved c =
       omega arith,
       λ i u.
           ⊎_elim
-          (λ (same : i ≡ l.r). rw same (c.does_region_pass.ensures (not_false _ c.if-not-does_region_pass.false)))
+          (λ (same : i ≡ l.r). rw same (c.does_region_pass.ensures c.if-not-does_region_pass.false))
           (λ (less : i < l.r). l.invariant.1 i less)
           (eq-or-lt_of_le (let v : i ≤ l.r = omega arith in v)),
     )
 
 pub returns : goal.returns
-returns c = c.loop-r.invariant.1 i (omega arith)
+returns c e i l = c.loop-r.invariant.1 i (omega arith)

@@ -1,20 +1,13 @@
 -- `particles::inner::checks::do_regions_pass` meets its contract: before region r every particle passes.
-use mathlib.Core.Bool.{true, true≢false}
-use mathlib.Core.Logic.{⊎_elim}
-use mathlib.Core.Path.{◌≡◌, sym}
 use Prim.Native.Nat.{ℕ, ◌-◌, ◌≤◌, ◌<◌}
-use native.Mathlib.Nat.{eq-or-lt_of_le}
-use native.Mathlib.Omega.{arith}
-use borrow.Author.Rules.{rules}
 use lib.ListN.{length, get_or}
 use Rattle.laws.specs.Store.{store}
 use Rattle.grid.specs.Table.{start_of, count_of}
-use Rattle.grid.proofs.Answers.{not_false}
 use Rattle.particles.specs.Table.{AllPass}
 use Rattle.particles.proofs.inner.checks.do_regions_pass.Given as goal
 
 abbrev pub invariant-loop-r : goal.invariant-loop-r
-invariant-loop-r l =     (l.r ≤ length l.ids) × ((i : ℕ) → i < l.r → AllPass l.h l.ids (get_or l.ids i 0) (store l.pf l.pw) (start_of l.ranges i) (count_of l.ranges i))
+invariant-loop-r l = (l.r ≤ length l.ids) × ((i : ℕ) → i < l.r → AllPass l.h l.ids (get_or l.ids i 0) (store l.pf l.pw) (start_of l.ranges i) (count_of l.ranges i))
 
 abbrev pub decreases-loop-r : goal.decreases-loop-r
 decreases-loop-r l = length l.ids - l.r

@@ -1,14 +1,10 @@
 -- `particles::inner::checks::do_stencils_stand` meets its contract: the stencils of all but those that are left have their nodes.
-use mathlib.Core.Bool.{true, false, true≢false}
+use mathlib.Core.Bool.{true≢false}
 use mathlib.Core.Logic.{⊎_elim}
 use mathlib.Core.Path.{◌≡◌, sym, subst}
-use Prim.Native.Nat.{ℕ, ◌+◌, ◌-◌, ◌≤◌, ◌<◌}
+use Prim.Native.Nat.{◌+◌, ◌-◌, ◌≤◌, ◌<◌}
 use native.Mathlib.Nat.{eq-or-lt_of_le}
 use native.Mathlib.Omega.{arith}
-use borrow.Author.Rules.{rules}
-use Rattle.laws.specs.Store.{store}
-use Rattle.grid.proofs.Answers.{not_false}
-use Rattle.particles.specs.Particles.{particle_at}
 use Rattle.particles.specs.Table.{OnGrid}
 use Rattle.particles.specs.Blocks.{corner_of, AllThere}
 use Rattle.particles.specs.declared.particle.Particle.{Particle}
@@ -26,14 +22,14 @@ does_stencil_stand-requires c =
     (c.requires.0, subst (OnGrid c.args.h) (sym c.read_particle.ensures) (c.requires.3 (c.args.start + c.args.count - l.left) (omega arith) (omega arith)))
 
 pub returns-then-not-does_stencil_stand : goal.returns-then-not-does_stencil_stand
-returns-then-not-does_stencil_stand c = absurd (true≢false (sym e))
+returns-then-not-does_stencil_stand c e = absurd (true≢false (sym e))
 
 pub loop-left-preserved : goal.loop-left-preserved
 loop-left-preserved c =
     let l = c.loop-left in
     let a = c.args in
     let p = a.start + a.count - l.left in
-    let there = subst (λ (q : Particle). AllThere a.block.now (corner_of a.h q)) c.read_particle.ensures (c.does_stencil_stand.ensures (not_false _ c.if-not-does_stencil_stand.false)) in (
+    let there = subst (λ (q : Particle). AllThere a.block.now (corner_of a.h q)) c.read_particle.ensures (c.does_stencil_stand.ensures c.if-not-does_stencil_stand.false) in (
       omega arith,
       λ k u v.
           ⊎_elim
@@ -43,4 +39,4 @@ loop-left-preserved c =
     )
 
 pub returns : goal.returns
-returns c = c.loop-left.invariant.1 k l (omega arith)
+returns c e k l u = c.loop-left.invariant.1 k l (omega arith)

@@ -3,7 +3,6 @@ use mathlib.Core.Bool.{Bool, true, false, ◌||◌, true≢false}
 use mathlib.Core.Path.{◌≡◌, refl, sym, ◌∙◌}
 use Prim.Native.Nat.{ℕ, ◌-◌, ◌<◌}
 use native.Mathlib.Omega.{arith}
-use borrow.Author.Rules.{rules}
 use borrow.Author.Tests.{eqb-true, eqb-false}
 use lib.Ieee.{Float}
 use Rattle.numeric.specs.Round.{cast_u32}
@@ -12,7 +11,7 @@ use Rattle.cells.specs.Stencil.{IsCoordinate}
 use Rattle.grid.proofs.Lengths.{and_split}
 use Rattle.particles.specs.Table.{on_axis, OnGrid}
 use Rattle.particles.specs.declared.particle.Particle.{Particle}
-
+use Rattle.particles.proofs.inner.checks.does_particle_stand.Goals.{Else-near}
 use Rattle.particles.proofs.inner.checks.does_particle_stand.Goals as goal
 
 neither : (a b : Bool) → (a || b) ≡ false → (a ≡ false) × (b ≡ false)
@@ -32,7 +31,7 @@ unfolding on_axis
 on_grid_lem h q x y = rw (x, y)
 
 -- what the tests let through: neither coordinate is 0
-found : (c : Else-near) → let k = c.before.before.before.coordinates.result in (0 < k.x) × (0 < k.y)
+found : (c : Else-near) → let k = c.coordinates-near.result in (0 < k.x) × (0 < k.y)
 found c =
     let e = neither _ _ c.if-near.false in
     let k = c.coordinates-near.result in
@@ -41,10 +40,10 @@ found c =
     (omega arith, omega arith)
 
 pub returns-then-has_bad_flag-is_not_finite : goal.returns-then-has_bad_flag-is_not_finite
-returns-then-has_bad_flag-is_not_finite c = absurd (true≢false (sym e))
+returns-then-has_bad_flag-is_not_finite c e = absurd (true≢false (sym e))
 
 pub returns-then-near : goal.returns-then-near
-returns-then-near c = absurd (true≢false (sym e))
+returns-then-near c e = absurd (true≢false (sym e))
 
 pub overflow_sub-result : goal.overflow_sub-result
 overflow_sub-result c = omega (arith, (found (goal.at.overflow_sub-result c).Else-near).0)
@@ -53,7 +52,7 @@ pub overflow_sub-result-2 : goal.overflow_sub-result-2
 overflow_sub-result-2 c = omega (arith, (found (goal.at.overflow_sub-result-2 c).Else-near).1)
 
 pub returns : goal.returns
-returns c =
+returns c e =
     let a = c.args in
     let sound = neither _ _ c.if-has_bad_flag-is_not_finite.false in
     let x = on _ _ (found (goal.at.returns c).Else-near).0 c.coordinates-near.ensures.0 in

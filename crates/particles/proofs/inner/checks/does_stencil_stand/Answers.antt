@@ -2,7 +2,6 @@
 use mathlib.Core.Path.{◌≡◌, ap, ◌∙◌, subst}
 use mathlib.Core.List.{List}
 use Prim.Native.Nat.{ℕ}
-use borrow.Author.Rules.{rules}
 use lib.ListN.{get_or}
 use Rattle.particles.specs.Blocks.{corner_in, corner_of, AllThere}
 use Rattle.particles.proofs.Placing.{in_range_lem}
@@ -15,7 +14,7 @@ pub are_there-requires : goal.are_there-requires
 are_there-requires c = (c.requires.0, c.corner_of.ensures.1)
 
 pub returns : goal.returns
-returns c =
+returns c e =
     let a = c.args in
     let k = c.corner_of in
     let corner : k.result ≡ corner_of a.h a.q = k.ensures.0 ∙ ap (λ (xs : List ℕ). corner_in (get_or xs 0 0) (get_or xs 1 0)) c.nearest-near.ensures.1 in

@@ -1,27 +1,19 @@
 -- `particles::inner::checks::first_particle` meets its contract: the rule refuses none but those that are left.
 use mathlib.Core.Path.{◌≡◌, sym, ap, ◌∙◌, subst}
 use mathlib.Core.Bool.{true, false}
-use mathlib.Core.List.{List}
 use Prim.Native.Nat.{ℕ, ◌+◌, ◌-◌, ◌≤◌, ◌<◌}
 use native.Mathlib.Omega.{arith}
-use borrow.Author.Rules.{rules}
-use lib.Ieee.{Float}
-use Rattle.laws.specs.Store.{Store, store}
+use Rattle.laws.specs.Store.{store}
 use Rattle.laws.specs.Refusals as Refusals
 use Rattle.laws.proofs.Refusals.{first_stop, first_go}
 use Rattle.grid.specs.Answers.{refused, refuse, first_of}
 use Rattle.grid.specs.declared.Answer.{Answer}
 use Rattle.grid.specs.declared.Answer.TheVariants.{Done}
-use Rattle.grid.specs.declared.Rule.{Rule}
 use Rattle.grid.proofs.Answers.{stops}
-use Rattle.particles.specs.Particles.{particle_at}
 use Rattle.particles.specs.Table.{judged, first_particle}
 use Rattle.particles.specs.declared.particle.Particle.{Particle}
+use Rattle.particles.proofs.inner.checks.first_particle.Invariants.{at}
 use Rattle.particles.proofs.inner.checks.first_particle.Goals as goal
-
--- what the rule answers for the particle at a place
-abbrev at : Rule → Float → List ℕ → ℕ → Store → ℕ → Answer
-at rule h ids r s k = refuse (judged rule h ids r (particle_at s k)) rule k
 
 -- the first of n, of which k are left
 module _ (answers : ℕ → Answer) (n k : ℕ) (positive : 0 < k) (enough : k ≤ n) where
@@ -56,7 +48,7 @@ returns-in_default c =
     sym (l.invariant.1
     ∙ stop (at a.rule a.h a.ids.now a.region s) (a.start + a.count) l.left (omega arith) (omega arith) c.judge-a.result
     (c.judge-a.ensures ∙ ap (λ (q : Particle). refuse (judged a.rule a.h a.ids.now a.region q) a.rule (a.start + a.count - l.left)) c.read_particle.ensures)
-    (stops c.judge-a.result c.in_default.keys2))
+    (stops c.judge-a.result (omega arith)))
 
 pub loop-left-preserved : goal.loop-left-preserved
 loop-left-preserved c =

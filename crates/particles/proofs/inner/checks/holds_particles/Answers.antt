@@ -1,6 +1,5 @@
 -- `particles::inner::checks::holds_particles` meets its contract.
 use mathlib.Core.Bool.{and-true}
-use borrow.Author.Rules.{rules}
 use Rattle.particles.proofs.inner.checks.holds_particles.Goals as goal
 
 pub returns : goal.returns

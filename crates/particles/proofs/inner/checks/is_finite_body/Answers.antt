@@ -1,6 +1,5 @@
 -- `particles::inner::checks::is_finite_body` meets its contract.
 use mathlib.Core.Bool.{and-true}
-use borrow.Author.Rules.{rules}
 use Rattle.particles.proofs.inner.checks.is_finite_body.Goals as goal
 
 pub returns : goal.returns

@@ -1,6 +1,5 @@
 -- `particles::inner::checks::is_finite_matrix` meets its contract.
 use mathlib.Core.Bool.{and-true}
-use borrow.Author.Rules.{rules}
 use Rattle.particles.proofs.inner.checks.is_finite_matrix.Goals as goal
 
 pub returns : goal.returns

@@ -2,7 +2,6 @@
 use mathlib.Core.Path.{◌≡◌, sym, ap}
 use mathlib.Core.Bool.{not, ◌&&◌}
 use mathlib.Core.List.{List, [], ◌∷◌, ◌++◌}
-use borrow.Author.Rules.{rules}
 use lib.Ieee.{Float}
 use Rattle.grid.specs.Table.{all, finite}
 use Rattle.particles.specs.Table.{not_finite}

@@ -1,6 +1,5 @@
 -- `particles::inner::checks::is_off_grid` meets its contract.
 use mathlib.Core.Bool.{and-true}
-use borrow.Author.Rules.{rules}
 use Rattle.particles.specs.Table.{off_grid}
 use Rattle.particles.proofs.inner.checks.is_off_grid.Goals as goal
 

@@ -1,5 +1,4 @@
 -- `particles::inner::checks::is_on_axis` meets its contract.
-use borrow.Author.Rules.{rules}
 use Rattle.particles.specs.Table.{on_axis}
 use Rattle.particles.proofs.inner.checks.is_on_axis.Goals as goal
 

@@ -1,5 +1,4 @@
 -- `particles::inner::checks::is_out_of_region` meets its contract.
-use borrow.Author.Rules.{rules}
 use Rattle.particles.specs.Table.{out_of_region}
 use Rattle.particles.proofs.inner.checks.is_out_of_region.Goals as goal
 

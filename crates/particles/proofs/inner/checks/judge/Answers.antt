@@ -1,12 +1,8 @@
 -- `particles::inner::checks::judge` meets its contract, rule by rule.
 use mathlib.Core.Path.{◌≡◌, refl}
-use mathlib.Core.List.{List, [], ◌∷◌}
+use mathlib.Core.List.{List}
 use Prim.Native.Nat.{ℕ}
-use borrow.Author.Rules.{rules}
-use types.Run.{OneOf, miss}
-use denote.Enum.Declared.{tag_of}
 use lib.Ieee.{Float}
-use Rattle.grid.specs.contracts.Rule.{the_type}
 use Rattle.grid.specs.Answers.{refuse}
 use Rattle.grid.specs.declared.Answer.TheVariants.{Done}
 use Rattle.grid.specs.declared.Rule.{Rule}
@@ -16,21 +12,18 @@ use Rattle.particles.specs.declared.particle.Particle.{Particle}
 use Rattle.particles.proofs.inner.checks.judge.Goals as goal
 
 -- the rules of the last arm look at no particle
-abbrev others : List ℕ
-others = 0 ∷ 1 ∷ 2 ∷ 5 ∷ 6 ∷ []
-
-passes : (rule : Rule) (h : Float) (ids : List ℕ) (r : ℕ) (q : Particle) (p : ℕ) → OneOf others (tag_of the_type rule) → Done ≡ refuse (judged rule h ids r q) rule p
+passes : (rule : Rule) (h : Float) (ids : List ℕ) (r : ℕ) (q : Particle) (p : ℕ) → (rule ≡ Code → ⊥) → (rule ≡ NotFinite → ⊥) → (rule ≡ OffGrid → ⊥) → (rule ≡ OutOfRegion → ⊥) → (rule ≡ Unlisted → ⊥) → Done ≡ refuse (judged rule h ids r q) rule p
 unfolding judged
-passes Length h ids r q p k = refl
-passes Limit h ids r q p k = refl
-passes Setting h ids r q p k = refl
-passes Code h ids r q p k = absurd (miss others 3 tt k)
-passes NotFinite h ids r q p k = absurd (miss others 4 tt k)
-passes RegionIds h ids r q p k = refl
-passes Cover h ids r q p k = refl
-passes OffGrid h ids r q p k = absurd (miss others 7 tt k)
-passes OutOfRegion h ids r q p k = absurd (miss others 8 tt k)
-passes Unlisted h ids r q p k = absurd (miss others 9 tt k)
+passes Length h ids r q p k l m n o = refl
+passes Limit h ids r q p k l m n o = refl
+passes Setting h ids r q p k l m n o = refl
+passes Code h ids r q p k l m n o = absurd (k refl)
+passes NotFinite h ids r q p k l m n o = absurd (l refl)
+passes RegionIds h ids r q p k l m n o = refl
+passes Cover h ids r q p k l m n o = refl
+passes OffGrid h ids r q p k l m n o = absurd (m refl)
+passes OutOfRegion h ids r q p k l m n o = absurd (n refl)
+passes Unlisted h ids r q p k l m n o = absurd (o refl)
 
 pub returns-in-Code : goal.returns-in-Code
 unfolding judged
@@ -53,4 +46,5 @@ unfolding judged
 returns-in-Unlisted c = rw c.in-Unlisted.is c.check_stencil.ensures
 
 pub returns-in_default : goal.returns-in_default
-returns-in_default c = passes _ _ _ _ _ _ c.in_default.keys6
+returns-in_default c =
+    passes _ _ _ _ _ _ c.in_default.not-Code c.in_default.not-NotFinite c.in_default.not-OffGrid c.in_default.not-OutOfRegion c.in_default.not-Unlisted
