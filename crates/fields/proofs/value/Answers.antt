@@ -7,11 +7,6 @@ use Rattle.fields.proofs.Reading.{room, no_room, digit_bad, digit_more, digit_ov
 use Rattle.fields.proofs.value.Goals.{Else-d-base}
 use Rattle.fields.proofs.value.Goals as goal
 
-fits : (c : Else-d-base) → c.loop-i.n * c.args.base + c.digit-d.result < 2 ^ 64
-fits c =
-    let small : c.digit-d.result < 2 ^ 64 = omega arith in
-    room _ _ _ c.if-base-d.false small c.if-d-base.false
-
 pub loop-i-init : goal.loop-i-init
 unfolding number_of
 loop-i-init c = (omega arith, refl)
@@ -25,6 +20,11 @@ returns-then-d-base c =
     let small : c.digit-d.result < 2 ^ 64 = omega arith in
     let more = no_room _ _ _ c.if-base-d.false small c.if-d-base.true in
     sym (c.loop-i.invariant.1 ∙ digit_over _ _ _ _ _ c.args.s.now c.digit-d.ensures c.loop-i-test.true c.requires c.if-base-d.false more)
+
+fits : (c : Else-d-base) → c.loop-i.n * c.args.base + c.digit-d.result < 2 ^ 64
+fits c =
+    let small : c.digit-d.result < 2 ^ 64 = omega arith in
+    room _ _ _ c.if-base-d.false small c.if-d-base.false
 
 pub overflow_mul-n : goal.overflow_mul-n
 overflow_mul-n c = omega (arith, fits (goal.at.overflow_mul-n c).Else-d-base)

@@ -18,5 +18,6 @@ returns-in_default c =
 
 pub returns : goal.returns
 returns c =
+    let tab = c.if-text-at-ne9.false in
     ap (λ (m : Number). ends m c.find-end.result) (sym c.in-Is.is)
-    ∙ read _ _ _ c.if-text-at.false c.if-text-at-ne9.false c.find-end.ensures.value (omega arith) c.number_in.ensures
+    ∙ read _ _ _ c.if-text-at.false tab c.find-end.ensures.value (omega arith) c.number_in.ensures
