@@ -1,6 +1,6 @@
 /*
  * Mangerknot's functions for C and C++, and for whatever calls C: the core of a material point solver in the plane. Link libboundary.a
- * (`rt staticlib boundary` writes it to target/staticlib), which is for x86-64 Linux; of the C library it wants memcpy and its kin.
+ * (`rt lib` in crates/boundary leaves it in out/ there), which is for x86-64 Linux; of the C library it wants memcpy and its kin.
  *
  * Every function takes any input and ends; what it answers, and what it leaves in memory that it is lent, is proved (docs/CLAIMS.md).
  * Numbers and structs cross by value. A flag crosses as a uint32_t, 0 or 1. A name that ends with 2 or 3 is of the plane or of space.

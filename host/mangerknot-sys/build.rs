@@ -1,4 +1,4 @@
-//! Says where the archive lies: in the folder that MANGERKNOT_ARCHIVE_DIR names, else where `rt staticlib boundary` writes it.
+//! Says where the archive lies: in the folder that MANGERKNOT_ARCHIVE_DIR names, else where `rt lib` leaves it.
 
 use std::env;
 use std::path::PathBuf;
@@ -16,16 +16,16 @@ fn main() {
         exit(1);
     }
     let about = match named {
-        Some(_) => "names that folder; without it, target/staticlib of the repository is taken",
+        Some(_) => "names that folder; without it, crates/boundary/out of the repository is taken",
         None => "can name another folder, where libboundary.a lies already",
     };
-    let folder = named.unwrap_or_else(|| repository.join("target/staticlib"));
+    let folder = named.unwrap_or_else(|| repository.join("crates/boundary/out"));
     let archive = folder.join("libboundary.a");
     println!("cargo:rerun-if-env-changed={}", VARIABLE);
     println!("cargo:rerun-if-changed={}", archive.display());
     if !archive.is_file() {
         eprintln!("Mangerknot's archive is missing: {}", archive.display());
-        eprintln!("`rt staticlib boundary`, in the repository's root, proves it and writes target/staticlib/libboundary.a.");
+        eprintln!("`rt lib`, in the repository's crates/boundary, proves it and leaves crates/boundary/out/libboundary.a.");
         eprintln!("The variable {} {}.", VARIABLE, about);
         exit(1);
     }

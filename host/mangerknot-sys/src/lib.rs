@@ -1,4 +1,4 @@
-//! The functions of the archive that `rt staticlib boundary` writes. `include/mangerknot.h` says what each answers.
+//! The functions of the archive that `rt lib` leaves in crates/boundary. `include/mangerknot.h` says what each answers.
 //! The gate compares this file with their source (`.ci/header`).
 #![no_std]
 
