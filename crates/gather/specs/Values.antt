@@ -204,7 +204,7 @@ pub record Values : Type 0 where
   pub fluid : after false true ≡ 0x40a00000 ∷ 0xc0000000 ∷ 0x40000000 ∷ 0xc0000000 ∷ 0x3f800000 ∷ 0 ∷ 0x40000000 ∷ 0x40400000 ∷ 0x40e00000 ∷ 0x40000000 ∷ 0x40400000 ∷ 0x40800000 ∷ 0x3f800000 ∷ []
   -- kinematic: v = (4, 8), x = (1 + 8, 2 + 16); G and F as without
   pub kinematic : after true false ≡ 0x41100000 ∷ 0x41900000 ∷ 0x40800000 ∷ 0x41000000 ∷ 0x3f800000 ∷ 0 ∷ 0x40000000 ∷ 0x40400000 ∷ 0x40400000 ∷ 0x40c00000 ∷ 0x41c80000 ∷ 0x42100000 ∷ 0x3f800000 ∷ []
-  -- G·dt and D·dt come first: F00 = 2 ^ 40 + (2 ^ 100·2 ^ -20)·2 ^ 40, where G-as-F would be infinite, and 2 ^ 40 + (2 ^ -100·2 ^ 100)·2 ^ 40, where dt·F would be
+  -- G·dt and D·dt come first: F00 = 2 ^ 40 + (2 ^ 100·2 ^ -20)·2 ^ 40, where G·F would be infinite, and 2 ^ 40 + (2 ^ -100·2 ^ 100)·2 ^ 40, where dt·F would be
   pub before : (map (stretched (pattern 0x35800000) (pattern 0x71800000) (pattern 0x53800000)) (false ∷ true ∷ []) ≡ many 2 (0x7b800000 ∷ 0 ∷ 0 ∷ 0 ∷ []))
       × (map (stretched (pattern 0x71800000) (pattern 0x0d800000) (pattern 0x53800000)) (false ∷ true ∷ []) ≡ many 2 (0x54000000 ∷ 0 ∷ 0 ∷ 0 ∷ []))
   -- modified eigenerosion, a threshold just below 3, of 3, just above; and switched off
