@@ -1,5 +1,5 @@
-// The bench: reads a listing from standard input to its end, however long, in a fixed amount of memory, and prints its answer. A program has no status of its own, so where
-// input cannot be read, which is no answer about a text, or the answer cannot be written, it says why on standard error.
+// The bench: reads a listing from standard input to its end, however long, in a fixed amount of memory, and prints its answer. Where input cannot be read, which is no answer
+// about a text, or the answer cannot be written, it says why on standard error. It ends with status 0 in any case, as `./bench` and the tests know it.
 #![tactic(auto)]
 
 ghost use Rattle.std.specs.Prelude.{◌≤◌, length, IfOk, IfSome};
@@ -9,20 +9,13 @@ use listing::reader::{Reader, feed, start};
 use std::io;
 use std::io::{Eprint, ErrorKind, Print, Read};
 
-// A text that was read to its end, or that there is none to answer.
-#[derive(Clone, Copy)]
-enum Input {
-    Text(Reader),
-    Lost,
-}
-
 fn main(rt: HostRuntime) {
     let mut line = [0u8; 256];
     let mut ids = [0u64; 64];
     let mut ranges = [0u64; 128];
     let mut pf = [0.0f32; 6656];
     let mut pw = [0u32; 1024];
-    let Input::Text(reader) = read_all(
+    let Some(reader) = read_all(
         &mut rt.stdin(),
         &rt,
         &mut line,
@@ -40,8 +33,8 @@ fn main(rt: HostRuntime) {
     }
 }
 
-// Feeds the input to the reader, piece by piece; a read that was interrupted is a piece of no bytes. A proved loop has to end, and nothing says that input does, so pieces are
-// counted down from a number that no run uses up.
+// Feeds the input to the reader, piece by piece, to its end; a read that was interrupted is a piece of no bytes. None where it cannot be read. A proved loop has to end, and
+// nothing says that input does, so pieces are counted up to a number that no run reaches.
 fn read_all<R: Read, E: Eprint>(
     input: &mut R,
     rt: &E,
@@ -50,19 +43,21 @@ fn read_all<R: Read, E: Eprint>(
     ranges: &mut [u64; 128],
     pf: &mut [f32; 6656],
     pw: &mut [u32; 1024],
-) -> Input {
+) -> Option<Reader> {
     let mut space = [0u8; 65536];
     let mut reader = start();
-    let mut pieces = u64::MAX;
-    while 0 < pieces {
+    for _ in 0..u64::MAX {
         match read_piece(input, &mut space) {
-            Ok(None) => return Input::Text(reader),
+            Ok(None) => return Some(reader),
             Ok(Some(n)) => reader = feed(reader, &space[..n], line, ids, ranges, pf, pw),
-            Err(error) => return lost(rt, error),
+            Err(error) => {
+                say(rt, "standard input cannot be read", error);
+                return None;
+            }
         }
-        pieces -= 1;
     }
-    endless(rt)
+    let _ = eprintln!(rt; "bench: standard input does not end");
+    None
 }
 
 // How many bytes one read put at the front of `space`: none where it was interrupted, so that it can be tried again, and None at the end.
@@ -75,16 +70,6 @@ fn read_piece<R: Read>(input: &mut R, space: &mut [u8]) -> io::Result<Option<usi
         Err(error) if error.kind() == ErrorKind::Interrupted => Ok(Some(0)),
         Err(error) => Err(error),
     }
-}
-
-fn lost<E: Eprint>(rt: &E, error: io::Error) -> Input {
-    say(rt, "standard input cannot be read", error);
-    Input::Lost
-}
-
-fn endless<E: Eprint>(rt: &E) -> Input {
-    let _ = eprintln!(rt; "bench: standard input does not end");
-    Input::Lost
 }
 
 // Says on standard error what failed and why; where that cannot be written, there is nobody left to tell.

@@ -4,7 +4,7 @@ ghost use Rattle.grid.specs.Answers.{number_of, index_of};
 
 use grid::Answer;
 
-// A number of the table and an index; 0 and 0 where the call is done.
+// A number of the table and an index; 0 and 0 where the call is done. A Result does not cross the C interface.
 #[repr(C)]
 #[derive(Clone, Copy)]
 pub struct Refusal {
@@ -12,17 +12,19 @@ pub struct Refusal {
     pub index: usize,
 }
 
-pub(crate) fn crossed(a: Answer) -> Refusal
-    ensures { (result.number ≡ number_of a) × (result.index ≡ index_of a) }
-{
-    let Answer::Refused(rule, index) = a else {
-        return Refusal {
-            number: 0,
-            index: 0,
-        };
-    };
-    Refusal {
-        number: grid::number(rule),
-        index,
+impl From<Answer> for Refusal {
+    ghost from_gives = { λ a r. (r.number ≡ number_of a) × (r.index ≡ index_of a) };
+
+    fn from(a: Answer) -> Refusal {
+        match a {
+            Ok(()) => Refusal {
+                number: 0,
+                index: 0,
+            },
+            Err(e) => Refusal {
+                number: u32::from(e.rule),
+                index: e.index,
+            },
+        }
     }
 }

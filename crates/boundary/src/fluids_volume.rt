@@ -5,7 +5,7 @@ ghost use Rattle.laws.specs.Refusals.{settle};
 ghost use Rattle.grid.specs.Answers.{number_of, index_of, refused};
 ghost use Rattle.fluids.specs.Fluids.{particles_after, nodes_after, fluids_check};
 
-use crate::answers::{Refusal, crossed};
+use crate::answers::Refusal;
 
 // Every fluid's volume from the mass around it, which is scattered onto the nodes, gathered, and taken off them again; or the call is refused, and nothing changes.
 #[unsafe(no_mangle)]
@@ -25,7 +25,7 @@ pub extern "C" fn mk_recompute_fluids_volumes2(
         × (store particle_floats.new particle_words.new ≡ settle (refused a) (store particle_floats.old particle_words.old) (particles_after cell_width ids.now ranges.now particles (store particle_floats.old particle_words.old) (store node_floats.old node_words.old)))
         × (store node_floats.new node_words.new ≡ settle (refused a) (store node_floats.old node_words.old) (nodes_after cell_width ids.now ranges.now particles (store particle_floats.old particle_words.old) (store node_floats.old node_words.old))) }
 {
-    crossed(fluids::fluids_volume::recompute_fluids_volumes(
+    Refusal::from(fluids::fluids_volume::recompute_fluids_volumes(
         cell_width,
         regions,
         ids,

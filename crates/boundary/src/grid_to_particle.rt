@@ -5,7 +5,7 @@ ghost use Rattle.laws.specs.Refusals.{settle};
 ghost use Rattle.grid.specs.Answers.{number_of, index_of, refused};
 ghost use Rattle.gather.specs.Gather.{first_half, second_half, first_check, second_check};
 
-use crate::answers::{Refusal, crossed};
+use crate::answers::Refusal;
 
 // Every particle takes velocity, gradient and psi from the nodes of its stencil and moves; or the call is refused, and nothing changes.
 #[unsafe(no_mangle)]
@@ -26,7 +26,7 @@ pub extern "C" fn mk_grid_to_particle_first_half2(
         (result.number ≡ number_of a) × (result.index ≡ index_of a)
         × (store particle_floats.new particle_words.new ≡ settle (refused a) (store particle_floats.old particle_words.old) (first_half cell_width dt modified_eigenerosion ids.now (store node_floats.now node_words.now) particles (store particle_floats.old particle_words.old))) }
 {
-    crossed(gather::grid_to_particle::grid_to_particle_first_half(
+    Refusal::from(gather::grid_to_particle::grid_to_particle_first_half(
         cell_width,
         dt,
         modified_eigenerosion,
@@ -54,7 +54,7 @@ pub extern "C" fn mk_grid_to_particle_second_half2(
         (result.number ≡ number_of a) × (result.index ≡ index_of a)
         × (store particle_floats.new particle_words.new ≡ settle (refused a) (store particle_floats.old particle_words.old) (second_half (store given_floats.now given_words.now) particles (store particle_floats.old particle_words.old))) }
 {
-    crossed(gather::grid_to_particle::grid_to_particle_second_half(
+    Refusal::from(gather::grid_to_particle::grid_to_particle_second_half(
         particles,
         particle_floats,
         particle_words,

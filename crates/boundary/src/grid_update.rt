@@ -8,7 +8,7 @@ ghost use Rattle.update.specs.Update.{updated, update_check};
 ghost use Rattle.solver.specs.Step.{step_check, stepped};
 ghost use Rattle.solver.specs.Clearing.{EmptyElsewhere};
 
-use crate::answers::{Refusal, crossed};
+use crate::answers::Refusal;
 use numeric::dim2::Vector;
 
 // Locks, then colliders in order, on every node of every listed region; or the call is refused, and nothing changes.
@@ -31,7 +31,7 @@ pub extern "C" fn mk_grid_update2(
         (result.number ≡ number_of a) × (result.index ≡ index_of a)
         × (store node_floats.new node_words.new ≡ settle (refused a) (store node_floats.old node_words.old) (updated cell_width dt boundary_handling simulation_dofs ids.now colliders collider_floats.now (store projection_floats.now projection_words.now) (store node_floats.old node_words.old))) }
 {
-    crossed(update::grid_update::grid_update(
+    Refusal::from(update::grid_update::grid_update(
         cell_width,
         dt,
         boundary_handling,
@@ -74,7 +74,7 @@ pub extern "C" fn mk_clear_scatter_update2(
         × (store node_floats.new node_words.new ≡ settle (refused a) (store node_floats.old node_words.old) (stepped cell_width dt (axes gravity) boundary_handling simulation_dofs regions ids.now ranges.now particles (store particle_floats.now particle_words.now) colliders collider_floats.now (store projection_floats.now projection_words.now) (store node_floats.old node_words.old)))
         × (refused a ≡ false → EmptyElsewhere cell_width ids.now particles (store particle_floats.now particle_words.now) (store node_floats.new node_words.new)) }
 {
-    crossed(solver::step::clear_scatter_update(
+    Refusal::from(solver::step::clear_scatter_update(
         cell_width,
         dt,
         gravity,

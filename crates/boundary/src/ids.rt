@@ -3,6 +3,9 @@ ghost use Rattle.std.specs.Prelude.{cond, [], ◌∷◌, ◌≡◌};
 ghost use Rattle.packing.specs.Mask.{axis_sum};
 ghost use Rattle.packing.specs.Ids.{dim2, dim3, region, packed_id, coordinates, sum, complement, diagonal, minus_one, minus_two, plus_five, number, cell_of, in_colour, region_neighbours, packed_shifts, packed_region_shifts, stencil_of};
 
+use packing::{Plane, Solid, Space};
+
+// A struct for each length: the type of an exported function has no parameters.
 #[repr(C)]
 #[derive(Clone, Copy)]
 pub struct Ids3 {
@@ -66,42 +69,42 @@ pub extern "C" fn mk_unpack2(xy: u64) -> packing::dim2::Cell
 pub extern "C" fn mk_packed_add2(i: u64, j: u64) -> u64
     ensures { result ≡ sum dim2 i j }
 {
-    packing::dim2::packed_add(i, j)
+    Plane::packed_add(i, j)
 }
 
 #[unsafe(no_mangle)]
 pub extern "C" fn mk_shift_cell_neg_one2(cell_id: u64) -> u64
     ensures { result ≡ sum dim2 cell_id (diagonal dim2 minus_one) }
 {
-    packing::dim2::shift_cell_neg_one(cell_id)
+    Plane::shift_cell_neg_one(cell_id)
 }
 
 #[unsafe(no_mangle)]
 pub extern "C" fn mk_shift_cell_neg_two2(cell_id: u64) -> u64
     ensures { result ≡ sum dim2 cell_id (diagonal dim2 minus_two) }
 {
-    packing::dim2::shift_cell_neg_two(cell_id)
+    Plane::shift_cell_neg_two(cell_id)
 }
 
 #[unsafe(no_mangle)]
 pub extern "C" fn mk_shift_cell_plus_five2(cell_id: u64) -> u64
     ensures { result ≡ sum dim2 cell_id (diagonal dim2 plus_five) }
 {
-    packing::dim2::shift_cell_plus_five(cell_id)
+    Plane::shift_cell_plus_five(cell_id)
 }
 
 #[unsafe(no_mangle)]
 pub extern "C" fn mk_number_in_region2(cell_id: u64) -> u64
     ensures { result ≡ number dim2 cell_id }
 {
-    packing::dim2::number_in_region(cell_id)
+    Plane::number_in_region(cell_id)
 }
 
 #[unsafe(no_mangle)]
 pub extern "C" fn mk_cell_of_region2(region_id: u64, number: u64) -> u64
     ensures { result ≡ cell_of dim2 region_id number }
 {
-    packing::dim2::cell_of_region(region_id, number)
+    Plane::cell_of_region(region_id, number)
 }
 
 // 1 for yes, 0 for no: a C caller may leave more than one bit in a bool.
@@ -109,11 +112,7 @@ pub extern "C" fn mk_cell_of_region2(region_id: u64, number: u64) -> u64
 pub extern "C" fn mk_is_in_region_with_color2(region_id: u64, color: u64) -> u32
     ensures { result ≡ cond (in_colour dim2 region_id color) 1 0 }
 {
-    if packing::dim2::is_in_region_with_color(region_id, color) {
-        1
-    } else {
-        0
-    }
+    u32::from(Plane::is_in_region_with_color(region_id, color))
 }
 
 #[unsafe(no_mangle)]
@@ -121,7 +120,7 @@ pub extern "C" fn mk_region_neighbors2(region_id: u64) -> Ids3
     ensures { result.ids ≡ region_neighbours dim2 region_id }
 {
     Ids3 {
-        ids: packing::dim2::region_neighbors(region_id),
+        ids: Plane::region_neighbors(region_id),
     }
 }
 
@@ -130,7 +129,7 @@ pub extern "C" fn mk_nbh_shifts2() -> Ids9
     ensures { result.ids ≡ packed_shifts dim2 }
 {
     Ids9 {
-        ids: packing::dim2::nbh_shifts(),
+        ids: Plane::nbh_shifts(),
     }
 }
 
@@ -139,7 +138,7 @@ pub extern "C" fn mk_nbh_region_shifts2() -> Ids3
     ensures { result.ids ≡ packed_region_shifts dim2 }
 {
     Ids3 {
-        ids: packing::dim2::nbh_region_shifts(),
+        ids: Plane::nbh_region_shifts(),
     }
 }
 
@@ -148,7 +147,7 @@ pub extern "C" fn mk_stencil_ids2(cell_id: u64) -> Ids9
     ensures { result.ids ≡ stencil_of dim2 cell_id }
 {
     Ids9 {
-        ids: packing::dim2::stencil(cell_id),
+        ids: Plane::stencil(cell_id),
     }
 }
 
@@ -177,53 +176,49 @@ pub extern "C" fn mk_unpack3(xyz: u64) -> packing::dim3::Cell
 pub extern "C" fn mk_packed_add3(i: u64, j: u64) -> u64
     ensures { result ≡ sum dim3 i j }
 {
-    packing::dim3::packed_add(i, j)
+    Solid::packed_add(i, j)
 }
 
 #[unsafe(no_mangle)]
 pub extern "C" fn mk_shift_cell_neg_one3(cell_id: u64) -> u64
     ensures { result ≡ sum dim3 cell_id (diagonal dim3 minus_one) }
 {
-    packing::dim3::shift_cell_neg_one(cell_id)
+    Solid::shift_cell_neg_one(cell_id)
 }
 
 #[unsafe(no_mangle)]
 pub extern "C" fn mk_shift_cell_neg_two3(cell_id: u64) -> u64
     ensures { result ≡ sum dim3 cell_id (diagonal dim3 minus_two) }
 {
-    packing::dim3::shift_cell_neg_two(cell_id)
+    Solid::shift_cell_neg_two(cell_id)
 }
 
 #[unsafe(no_mangle)]
 pub extern "C" fn mk_shift_cell_plus_five3(cell_id: u64) -> u64
     ensures { result ≡ sum dim3 cell_id (diagonal dim3 plus_five) }
 {
-    packing::dim3::shift_cell_plus_five(cell_id)
+    Solid::shift_cell_plus_five(cell_id)
 }
 
 #[unsafe(no_mangle)]
 pub extern "C" fn mk_number_in_region3(cell_id: u64) -> u64
     ensures { result ≡ number dim3 cell_id }
 {
-    packing::dim3::number_in_region(cell_id)
+    Solid::number_in_region(cell_id)
 }
 
 #[unsafe(no_mangle)]
 pub extern "C" fn mk_cell_of_region3(region_id: u64, number: u64) -> u64
     ensures { result ≡ cell_of dim3 region_id number }
 {
-    packing::dim3::cell_of_region(region_id, number)
+    Solid::cell_of_region(region_id, number)
 }
 
 #[unsafe(no_mangle)]
 pub extern "C" fn mk_is_in_region_with_color3(region_id: u64, color: u64) -> u32
     ensures { result ≡ cond (in_colour dim3 region_id color) 1 0 }
 {
-    if packing::dim3::is_in_region_with_color(region_id, color) {
-        1
-    } else {
-        0
-    }
+    u32::from(Solid::is_in_region_with_color(region_id, color))
 }
 
 #[unsafe(no_mangle)]
@@ -231,7 +226,7 @@ pub extern "C" fn mk_region_neighbors3(region_id: u64) -> Ids7
     ensures { result.ids ≡ region_neighbours dim3 region_id }
 {
     Ids7 {
-        ids: packing::dim3::region_neighbors(region_id),
+        ids: Solid::region_neighbors(region_id),
     }
 }
 
@@ -240,7 +235,7 @@ pub extern "C" fn mk_nbh_shifts3() -> Ids27
     ensures { result.ids ≡ packed_shifts dim3 }
 {
     Ids27 {
-        ids: packing::dim3::nbh_shifts(),
+        ids: Solid::nbh_shifts(),
     }
 }
 
@@ -249,7 +244,7 @@ pub extern "C" fn mk_nbh_region_shifts3() -> Ids7
     ensures { result.ids ≡ packed_region_shifts dim3 }
 {
     Ids7 {
-        ids: packing::dim3::nbh_region_shifts(),
+        ids: Solid::nbh_region_shifts(),
     }
 }
 
@@ -258,6 +253,6 @@ pub extern "C" fn mk_stencil_ids3(cell_id: u64) -> Ids27
     ensures { result.ids ≡ stencil_of dim3 cell_id }
 {
     Ids27 {
-        ids: packing::dim3::stencil(cell_id),
+        ids: Solid::stencil(cell_id),
     }
 }

@@ -1,10 +1,8 @@
 // The lengths of substeps over the boundary, all of a step or one at a time. What is lent is only read.
 ghost use Rattle.std.specs.Prelude.{◌≡◌};
-ghost use Rattle.lengths.specs.Lengths.{step_lengths, min_dt, substep, end_number, step_number, step_index, step_count, step_remaining, step_end, min_number, min_index, min_length, substep_number, substep_index, substep_length, substep_remaining};
+ghost use Rattle.lengths.specs.Lengths.{step_lengths, min_dt, substep, step_number, step_index, step_count, step_remaining, step_end, min_number, min_index, min_length, substep_number, substep_index, substep_length, substep_remaining};
 
-use lengths::End;
-
-// A number of the table and an index; and, where these are 0, how many substeps the step has, what time remains, and how it ended: 0 finished, 1 after the one that was asked
+// In place of a Result, which does not cross the C interface: a number of the table and an index; and, where these are 0, how many substeps the step has, what time remains, and how it ended: 0 finished, 1 after the one that was asked
 // for, 2 for want of a proposal.
 #[repr(C)]
 #[derive(Clone, Copy)]
@@ -39,16 +37,15 @@ pub struct LeastLength {
 pub extern "C" fn mk_min_dt(total: f32, max_num_substeps: u32) -> LeastLength
     ensures { let a = min_dt total max_num_substeps in (result.number ≡ min_number a) × (result.index ≡ min_index a) × (result.length ≡ min_length a) }
 {
-    let a = lengths::mls_solver::min_dt(total, max_num_substeps);
-    match a {
-        lengths::Least::Length(length) => LeastLength {
+    match lengths::mls_solver::min_dt(total, max_num_substeps) {
+        Ok(length) => LeastLength {
             number: 0,
             index: 0,
             length,
         },
-        lengths::Least::Refused(rule, index) => LeastLength {
-            number: grid::number(rule),
-            index,
+        Err(e) => LeastLength {
+            number: u32::from(e.rule),
+            index: e.index,
             length: 0.0,
         },
     }
@@ -75,30 +72,20 @@ pub extern "C" fn mk_step_lengths(
         dts,
     );
     match a {
-        lengths::Lengths::Ended(end, count, remaining) => Lengths {
+        Ok(step) => Lengths {
             number: 0,
             index: 0,
-            count,
-            remaining,
-            end: end_number(end),
+            count: step.count,
+            remaining: step.remaining,
+            end: u32::from(step.end),
         },
-        lengths::Lengths::Refused(rule, index) => Lengths {
-            number: grid::number(rule),
-            index,
+        Err(e) => Lengths {
+            number: u32::from(e.rule),
+            index: e.index,
             count: 0,
             remaining: 0.0,
             end: 0,
         },
-    }
-}
-
-fn end_number(end: End) -> u32
-    ensures { result ≡ end_number end }
-{
-    match end {
-        End::Finished => 0,
-        End::OneSubstep => 1,
-        End::NoProposal => 2,
     }
 }
 
@@ -112,17 +99,16 @@ pub extern "C" fn mk_substep(
     ensures { let a = substep remaining_time min_dt max_substep_dt dt in
         (result.number ≡ substep_number a) × (result.index ≡ substep_index a) × (result.length ≡ substep_length a) × (result.remaining ≡ substep_remaining a) }
 {
-    let a = lengths::mls_solver::substep(remaining_time, min_dt, max_substep_dt, dt);
-    match a {
-        lengths::Substep::Taken(length, remaining) => Substep {
+    match lengths::mls_solver::substep(remaining_time, min_dt, max_substep_dt, dt) {
+        Ok(taken) => Substep {
             number: 0,
             index: 0,
-            length,
-            remaining,
+            length: taken.length,
+            remaining: taken.remaining,
         },
-        lengths::Substep::Refused(rule, index) => Substep {
-            number: grid::number(rule),
-            index,
+        Err(e) => Substep {
+            number: u32::from(e.rule),
+            index: e.index,
             length: 0.0,
             remaining: 0.0,
         },

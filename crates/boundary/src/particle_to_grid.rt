@@ -3,12 +3,11 @@ ghost use Rattle.std.specs.Prelude.{◌≡◌, length};
 ghost use Rattle.numeric.specs.Axes.{axes};
 ghost use Rattle.laws.specs.Store.{store};
 ghost use Rattle.laws.specs.Refusals.{settle};
-ghost use Rattle.grid.specs.Answers.{number_of, index_of, refused};
-ghost use Rattle.grid.specs.declared.Answer.TheVariants.{Done};
+ghost use Rattle.grid.specs.Answers.{number_of, index_of, refused, done};
 ghost use Rattle.scatter.specs.Scatter.{scattered, region_scattered, place_check, scatter_check};
 ghost use Rattle.solver.specs.Order.{order_check};
 
-use crate::answers::{Refusal, crossed};
+use crate::answers::Refusal;
 use numeric::dim2::Vector;
 
 // Every region's particles, colours 0 to 3 and regions in the list's order; or the call is refused, and nothing changes.
@@ -26,11 +25,11 @@ pub extern "C" fn mk_particle_to_grid_scatter2(
     node_floats: &mut [f32],
     node_words: &mut [u32],
 ) -> Refusal
-    ensures { let a = scatter_check Done cell_width dt (axes gravity) regions ids.now ranges.now particles (store particle_floats.now particle_words.now) (length node_floats.old) (length node_words.old) in
+    ensures { let a = scatter_check done cell_width dt (axes gravity) regions ids.now ranges.now particles (store particle_floats.now particle_words.now) (length node_floats.old) (length node_words.old) in
         (result.number ≡ number_of a) × (result.index ≡ index_of a)
         × (store node_floats.new node_words.new ≡ settle (refused a) (store node_floats.old node_words.old) (scattered cell_width dt (axes gravity) ids.now ranges.now (store particle_floats.now particle_words.now) (store node_floats.old node_words.old))) }
 {
-    crossed(scatter::particle_to_grid::particle_to_grid_scatter(
+    Refusal::from(scatter::particle_to_grid::particle_to_grid_scatter(
         cell_width,
         dt,
         gravity,
@@ -65,7 +64,7 @@ pub extern "C" fn mk_particle_to_grid_scatter_region2(
         (result.number ≡ number_of a) × (result.index ≡ index_of a)
         × (store node_floats.new node_words.new ≡ settle (refused a) (store node_floats.old node_words.old) (region_scattered cell_width dt (axes gravity) ids.now ranges.now (store particle_floats.now particle_words.now) place (store node_floats.old node_words.old))) }
 {
-    crossed(scatter::particle_to_grid::particle_to_grid_scatter_region(
+    Refusal::from(scatter::particle_to_grid::particle_to_grid_scatter_region(
         place,
         cell_width,
         dt,
@@ -101,7 +100,7 @@ pub extern "C" fn mk_scatter_in_order2(
         (result.number ≡ number_of a) × (result.index ≡ index_of a)
         × (store node_floats.new node_words.new ≡ settle (refused a) (store node_floats.old node_words.old) (scattered cell_width dt (axes gravity) ids.now ranges.now (store particle_floats.now particle_words.now) (store node_floats.old node_words.old))) }
 {
-    crossed(solver::scatter_in_order(
+    Refusal::from(solver::scatter_in_order(
         order,
         cell_width,
         dt,

@@ -9,11 +9,10 @@ ghost use Rattle.grid.specs.Answers.{number_of, index_of, refused};
 ghost use Rattle.grid.specs.Clear.{clear_check, cleared};
 ghost use Rattle.boundary.specs.Crossing.{found_flag, found_place};
 
-use crate::answers::{Refusal, crossed};
-use cells::Found;
+use crate::answers::Refusal;
 use numeric::dim2::Point;
 
-// Where an id stands in a list: 1 and its place, or 0 and 0.
+// Where an id stands in a list: 1 and its place, or 0 and 0. An Option does not cross the C interface.
 #[repr(C)]
 #[derive(Clone, Copy)]
 pub struct FoundPlace {
@@ -25,10 +24,10 @@ pub struct FoundPlace {
 pub extern "C" fn mk_lookup(ids: &[u64], id: u64) -> FoundPlace
     ensures { (result.found ≡ found_flag (lookup ids.now id)) × (result.place ≡ found_place (lookup ids.now id)) }
 {
-    let Found::At(place) = cells::lookup(ids, id) else {
-        return FoundPlace { found: 0, place: 0 };
-    };
-    FoundPlace { found: 1, place }
+    match cells::lookup(ids, id) {
+        Some(place) => FoundPlace { found: 1, place },
+        None => FoundPlace { found: 0, place: 0 },
+    }
 }
 
 #[unsafe(no_mangle)]
@@ -78,5 +77,5 @@ pub extern "C" fn mk_clear2(
         (result.number ≡ number_of a) × (result.index ≡ index_of a)
         × (store node_floats.new node_words.new ≡ settle (refused a) (store node_floats.old node_words.old) (cleared regions (store node_floats.old node_words.old))) }
 {
-    crossed(grid::clear(regions, ids, node_floats, node_words))
+    Refusal::from(grid::clear(regions, ids, node_floats, node_words))
 }

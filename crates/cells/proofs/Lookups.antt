@@ -1,11 +1,9 @@
 -- The search by halves: a span narrows to one entry or none in as many halvings as it has entries, and more change nothing, so a half is searched as the whole is.
 -- What is found stands there, and in an ascending list every id is found.
 -- Assumes nothing.
-use Rattle.std.proofs.Common.{◌≡◌, ℕ, zero, suc, ◌+◌, ◌-◌, ◌/◌, ◌<◌, ◌≤◌, Bool, true, false, cond, eqb, leb, List, length, get_or, sym, refl, ap, arith, eq-eqb, ne_eqb, eqb-true, le-leb, leb-false, leb-true}
-use borrow.Author.Tests.{eqb-false, lt-leb}
+use Rattle.std.proofs.lemmas.Bool.{eqb-false, lt-leb}
+use Rattle.std.proofs.Common.{◌≡◌, ℕ, zero, suc, ◌+◌, ◌-◌, ◌/◌, ◌<◌, ◌≤◌, Bool, true, false, cond, eqb, leb, List, length, get_or, Option, Some, None, sym, refl, ap, arith, eq-eqb, ne_eqb, eqb-true, le-leb, leb-false, leb-true}
 use Rattle.cells.specs.Lookup.{Span, lower, upper, halved, narrowed, left, searched, lookup, Ascending, Laws}
-use Rattle.cells.specs.declared.Found.{Found}
-use Rattle.cells.specs.declared.Found.TheVariants.{At, Absent}
 
 -- what holds of the choice by a test
 chosen : {A : Type 0} (P : A → Type 0) (b : Bool) {x y : A} → (b ≡ true → P x) → (b ≡ false → P y) → P (cond b x y)
@@ -16,9 +14,9 @@ abbrev span : ℕ → ℕ → Span
 span first count = record { first = first; count = count }
 
 -- an answer that is no place
-none : (f : Found) → ((k : ℕ) → f ≡ At k → ⊥) → f ≡ Absent
-none (At k) n = absurd (n k refl)
-none Absent n = refl
+none : (f : Option ℕ) → ((k : ℕ) → f ≡ Some k → ⊥) → f ≡ None
+none (Some k) n = absurd (n k refl)
+none None n = refl
 
 module _ (ids : List ℕ) (id : ℕ) where
   -- ---- one halving
@@ -89,22 +87,22 @@ module _ (ids : List ℕ) (id : ℕ) where
   within : (s : Span) → Within s → Within (halved ids id s)
   within s h = by_cases Within s (λ one. h) (λ many up. omega arith) (λ many down. omega arith)
 
-  stands : (s : Span) (k : ℕ) → Within s → left ids id s ≡ At k → (k < length ids) × (get_or ids k 0 ≡ id)
+  stands : (s : Span) (k : ℕ) → Within s → left ids id s ≡ Some k → (k < length ids) × (get_or ids k 0 ≡ id)
   unfolding left
   stands s k h =
-      let P : Found → Type 0 = λ f. f ≡ At k → (k < length ids) × (get_or ids k 0 ≡ id) in
+      let P : Option ℕ → Type 0 = λ f. f ≡ Some k → (k < length ids) × (get_or ids k 0 ≡ id) in
       chosen P (eqb s.count 0) (λ empty e. absurd (no e))
       (λ some. chosen P (eqb (get_or ids s.first 0) id)
       (λ same e. let at : s.first ≡ k = cc in (omega (arith, eqb-false s.count 0 some), rw (← at) (eqb-true _ _ same)))
       (λ other e. absurd (no e)))
     where
-      no : Absent ≡ At k → ⊥
+      no : None ≡ Some k → ⊥
       no e = let z : ◌≡◌ {A = ℕ} 0 1 = cc in omega arith
 
   abbrev all : Span
   all = span 0 (length ids)
 
-  found : (k : ℕ) → lookup ids id ≡ At k → (k < length ids) × (get_or ids k 0 ≡ id)
+  found : (k : ℕ) → lookup ids id ≡ Some k → (k < length ids) × (get_or ids k 0 ≡ id)
   unfolding lookup searched
   found k e = stands (narrowed ids id (length ids) all) k (keeps Within within (length ids) all (omega arith)) e
 
@@ -128,13 +126,13 @@ module _ (ids : List ℕ) (id : ℕ) where
         let other : (upper s).first ≡ k → ⊥ = λ e. omega (arith, ap (λ (i : ℕ). get_or ids i 0) e) in
         omega arith)
 
-    is_left : (s : Span) → s.count ≤ 1 → Has s → left ids id s ≡ At k
+    is_left : (s : Span) → s.count ≤ 1 → Has s → left ids id s ≡ Some k
     unfolding left
     is_left s one h =
         let at : s.first ≡ k = omega arith in
         rw (ne_eqb s.count 0 (omega arith), at, eq-eqb _ _ here)
 
-    placed : k < length ids → lookup ids id ≡ At k
+    placed : k < length ids → lookup ids id ≡ Some k
     unfolding lookup searched
     placed l =
         is_left (narrowed ids id (length ids) all) (narrows (length ids) all (omega arith))

@@ -1,9 +1,7 @@
 -- Document 01: "A lookup answers the place of the region, or that it is absent", by the rule of document 02, request 09: "halves the span of the list until one entry or
 -- none is left (the lower part has the floor of half; the upper is kept if its first id is at most the sought one)". Definitions, and what is proved of them.
 -- Assumes nothing.
-use Rattle.std.specs.Prelude.{◌≡◌, ℕ, zero, suc, ◌+◌, ◌-◌, ◌/◌, ◌<◌, cond, List, length, ◌==◌, ◌≢◌, nat_le, slice_index}
-use Rattle.cells.specs.declared.Found.{Found}
-use Rattle.cells.specs.declared.Found.TheVariants.{At, Absent}
+use Rattle.std.specs.Prelude.{◌≡◌, ℕ, zero, suc, ◌+◌, ◌-◌, ◌/◌, ◌<◌, cond, List, length, Option, Some, None, ◌==◌, ◌≢◌, nat_le, slice_index}
 
 -- the `count` entries from `first` on
 pub record Span : Type 0 where
@@ -28,14 +26,14 @@ module _ (ids : List ℕ) (id : ℕ) where
   narrowed (suc n) s = narrowed n (halved s)
 
   -- what is left: none, or one entry, which is the sought one or not
-  unfoldable pub left : Span → Found
-  left s = cond (s.count == 0) Absent (cond (slice_index ids s.first == id) (At s.first) Absent)
+  unfoldable pub left : Span → Option ℕ
+  left s = cond (s.count == 0) None (cond (slice_index ids s.first == id) (Some s.first) None)
 
   -- as many halvings as there are entries leave one or none
-  unfoldable pub searched : ℕ → ℕ → Found
+  unfoldable pub searched : ℕ → ℕ → Option ℕ
   searched first count = left (narrowed count (record { first = first; count = count }))
 
-unfoldable pub lookup : List ℕ → ℕ → Found
+unfoldable pub lookup : List ℕ → ℕ → Option ℕ
 lookup ids id = searched ids id 0 (length ids)
 
 -- ---- what is proved of it
@@ -45,8 +43,8 @@ Ascending ids = (i j : ℕ) → i < j → j < length ids → slice_index ids i <
 
 pub record Laws (ids : List ℕ) : Type 0 where
   -- What is found stands there, in every list.
-  pub found : (id k : ℕ) → lookup ids id ≡ At k → (k < length ids) × (slice_index ids k ≡ id)
+  pub found : (id k : ℕ) → lookup ids id ≡ Some k → (k < length ids) × (slice_index ids k ≡ id)
   -- In an ascending list each id is found at its place,
-  pub place : Ascending ids → (k : ℕ) → k < length ids → lookup ids (slice_index ids k) ≡ At k
+  pub place : Ascending ids → (k : ℕ) → k < length ids → lookup ids (slice_index ids k) ≡ Some k
   -- and what does not stand there is absent.
-  pub absent : (id : ℕ) → ((k : ℕ) → k < length ids → slice_index ids k ≢ id) → lookup ids id ≡ Absent
+  pub absent : (id : ℕ) → ((k : ℕ) → k < length ids → slice_index ids k ≢ id) → lookup ids id ≡ None

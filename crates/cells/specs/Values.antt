@@ -1,5 +1,5 @@
 -- The definitions on values that can be followed by hand. Assumes nothing.
-use Rattle.std.specs.Prelude.{◌≡◌, ℕ, false, List, [], ◌∷◌, map, refl, Float}
+use Rattle.std.specs.Prelude.{◌≡◌, ℕ, false, List, [], ◌∷◌, map, refl, Some, None, Float}
 use Rattle.std.proofs.Common.{ap}
 use Rattle.std.specs.Float.{nan, inf, binary32}
 use Rattle.std.specs.Float.Ieee.{neg, of_bits, to_bits, of_int, to_unsigned, round, mul, div}
@@ -9,7 +9,6 @@ use Rattle.numeric.specs.Bits.{none, half, three_quarters, one, three_halves}
 use Rattle.numeric.specs.Round.{round_away}
 use Rattle.cells.specs.Cells.{coordinate, one_off, centre, cell_pos_closest_to_point, cell_at_point, cell_associated_to_point, region_associated_to_point}
 use Rattle.cells.specs.Lookup.{lower, upper, halved, narrowed, left, searched, lookup}
-use Rattle.cells.specs.declared.Found.TheVariants.{At, Absent}
 
 abbrev bits : Float → ℕ
 bits x = to_bits binary32 x
@@ -41,11 +40,11 @@ pub record Values : Type 0 where
   -- of five entries two are lower and three upper, from the third on
   pub parts : (lower (record { first = 0; count = 5 }) ≡ record { first = 0; count = 2 }) × (upper (record { first = 0; count = 5 }) ≡ record { first = 2; count = 3 })
   -- in no entries, in one and in five
-  pub few : (lookup [] 0 ≡ Absent) × (lookup (4096 ∷ []) 4096 ≡ At 0) × (lookup (4096 ∷ []) 0 ≡ Absent) × (lookup (4096 ∷ []) 8192 ≡ Absent)
-  pub found : map (lookup five) five ≡ At 0 ∷ At 1 ∷ At 2 ∷ At 3 ∷ At 4 ∷ []
-  pub absent : map (lookup five) (4095 ∷ 20480 ∷ []) ≡ Absent ∷ Absent ∷ []
+  pub few : (lookup [] 0 ≡ None) × (lookup (4096 ∷ []) 4096 ≡ Some 0) × (lookup (4096 ∷ []) 0 ≡ None) × (lookup (4096 ∷ []) 8192 ≡ None)
+  pub found : map (lookup five) five ≡ Some 0 ∷ Some 1 ∷ Some 2 ∷ Some 3 ∷ Some 4 ∷ []
+  pub absent : map (lookup five) (4095 ∷ 20480 ∷ []) ≡ None ∷ None ∷ []
   -- 8192 stands first, and the upper part is kept twice; of two that are equal the upper is found
-  pub others : (map (lookup unsorted) unsorted ≡ Absent ∷ At 1 ∷ At 2 ∷ []) × (lookup (4096 ∷ 4096 ∷ []) 4096 ≡ At 1)
+  pub others : (map (lookup unsorted) unsorted ≡ None ∷ Some 1 ∷ Some 2 ∷ []) × (lookup (4096 ∷ 4096 ∷ []) 4096 ≡ Some 1)
 
 pub values : Values
 unfolding cell_pos_closest_to_point cell_at_point cell_associated_to_point region_associated_to_point lookup searched left narrowed halved round_away round to_unsigned of_int mul div neg of_bits to_bits

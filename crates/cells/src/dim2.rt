@@ -62,5 +62,5 @@ fn coord(cell_width: f32, x: f32) -> u32
 pub(crate) fn one_off(c: u32) -> u32
     ensures { result ≡ one_off c }
 {
-    std::num::wrapping_sub_u32(c, 1)
+    c.wrapping_sub(1)
 }

@@ -47,19 +47,19 @@ pub fn coordinates(cell_width: f32, pt: Point) -> Cell
     }
 }
 
-// That of a point at x, in cells.
+// That of a point at x, in cells. 0, which no cell of the grid has, stands for none: under an Option for each axis `nearest` would have two arms that never run.
 fn coordinate(x: f32) -> u32
     ensures { IsCoordinate (round_away x) result }
 {
-    if x != x {
+    if x.is_nan() {
         return 0;
     }
-    let b: u32 = f32::to_bits(x);
+    let b = x.to_bits();
     // below 0, or 2^23 and more
     if b >= 0x4b00_0000 {
         return 0;
     }
-    let n: u32 = nearest_whole(b);
+    let n = nearest_whole(b);
     if n > 65535 {
         return 0;
     }

@@ -7,26 +7,20 @@ pub mod inner;
 ghost use Rattle.std.specs.Prelude.{◌≡◌, ◌+◌, ◌≤◌, length};
 ghost use Rattle.cells.specs.Lookup.{lookup, searched};
 
-#[derive(Clone, Copy)]
-pub enum Found {
-    At(usize),
-    Absent,
-}
-
 // Where the id stands in the list, found by halves.
-pub fn lookup(ids: &[u64], id: u64) -> Found
+pub fn lookup(ids: &[u64], id: u64) -> Option<usize>
     ensures { result ≡ lookup ids.now id }
 {
     lookup_in(ids, id, 0, ids.len())
 }
 
-// The same among the `count` entries from `first` on.
-fn lookup_in(ids: &[u64], id: u64, first: usize, count: usize) -> Found
+// The same among the `count` entries from `first` on. Not the library's `binary_search`: what is answered of a list that does not ascend is promised too.
+fn lookup_in(ids: &[u64], id: u64, first: usize, count: usize) -> Option<usize>
     requires { first + count ≤ length ids.now }
     ensures { result ≡ searched ids.now id first count }
 {
     if count == 0 {
-        return Found::Absent;
+        return None;
     }
     if count == 1 {
         return entry(ids, id, first);
@@ -39,12 +33,9 @@ fn lookup_in(ids: &[u64], id: u64, first: usize, count: usize) -> Found
 }
 
 // One entry is the sought one, or there is none.
-fn entry(ids: &[u64], id: u64, place: usize) -> Found
+fn entry(ids: &[u64], id: u64, place: usize) -> Option<usize>
     requires { place + 1 ≤ length ids.now }
     ensures { result ≡ searched ids.now id place 1 }
 {
-    if ids[place] == id {
-        return Found::At(place);
-    }
-    Found::Absent
+    (ids[place] == id).then_some(place)
 }

@@ -1,17 +1,10 @@
 -- What is written is read back: the digits of a number as that number, and its decimal as that number. Assumes nothing.
-use Prim.Native.Nat.{ℕ, zero, suc, ◌+◌, ◌*◌, ◌/◌, ◌%◌, ◌^◌, ◌≤◌, ◌<◌}
-use mathlib.Core.Path.{◌≡◌, refl, ap, ◌∙◌}
-use mathlib.Core.Bool.{Bool, true, false, cond}
-use mathlib.Core.List.{List, [], ◌∷◌, ◌++◌}
-use native.Mathlib.Nat.{mod-lt, div-lt_iff_lt-mul, div-add-mod', pow-suc, pow-zero}
-use native.Mathlib.Omega.{arith}
-use lib.ListN.{length, get_or, get_or-append}
-use lib.Dec.{ltb}
-use borrow.Author.Tests.{eq-eqb, ne_eqb, lt-ltb, le-ltb, le-leb, lt-leb, ltb-true, ltb-false}
+use Rattle.std.proofs.lemmas.Bool.{lt-leb}
+use Rattle.std.proofs.Common.{ℕ, zero, suc, ◌+◌, ◌*◌, ◌/◌, ◌%◌, ◌^◌, ◌≤◌, ◌<◌, ◌≡◌, refl, ap, ◌∙◌, Bool, true, false, cond, Option, Some, None, List, [], ◌∷◌, ◌++◌, mod-lt, div-lt_iff_lt-mul, div-add-mod', pow-suc, arith, length, get_or, ltb, eq-eqb, ne_eqb, lt-ltb, le-ltb, le-leb, ltb-true, ltb-false}
+use Rattle.std.proofs.Math.Nat.{pow-zero}
+use Rattle.std.proofs.Math.ListN.{get_or-append}
 use Rattle.fields.specs.Read.{digit_of, onward, bounded, number_of, hex_of, decimal_of}
 use Rattle.fields.specs.Write.{glyph_of, digits_of, places_of, text_of}
-use Rattle.fields.specs.declared.Number.{Number}
-use Rattle.fields.specs.declared.Number.TheVariants.{Is, Bad}
 use Rattle.fields.proofs.Writing.{places_one, length_digits}
 
 digit_glyph : (d : ℕ) → d < 16 → digit_of (glyph_of d) ≡ d
@@ -27,9 +20,9 @@ digit_glyph d h = go (ltb d 10) refl
         rw (le-ltb (55 + d) 48 (omega arith), lt-leb (55 + d) 57 (omega arith), le-ltb (55 + d) 65 (omega arith), le-leb (55 + d) 70 (omega arith)) (omega arith)
 
 -- a number and one digit more
-next : ℕ → ℕ → Number → Number
-next base x (Is n) = cond (ltb (digit_of x) base) (Is (n * base + digit_of x)) Bad
-next base x Bad = Bad
+next : ℕ → ℕ → Option ℕ → Option ℕ
+next base x (Some n) = cond (ltb (digit_of x) base) (Some (n * base + digit_of x)) None
+next base x None = None
 
 onward_last : (base m : ℕ) (xs : List ℕ) (x : ℕ) → onward base m (xs ++ (x ∷ [])) ≡ next base x (onward base m xs)
 unfolding onward next
@@ -37,20 +30,20 @@ onward_last base m [] x = refl
 onward_last base m (y ∷ xs) x = go (onward_last base (m * base + digit_of y) xs x) (ltb (digit_of y) base)
   where
     go : onward base (m * base + digit_of y) (xs ++ (x ∷ [])) ≡ next base x (onward base (m * base + digit_of y) xs)
-        → (t : Bool) → cond t (onward base (m * base + digit_of y) (xs ++ (x ∷ []))) Bad ≡ next base x (cond t (onward base (m * base + digit_of y) xs) Bad)
+        → (t : Bool) → cond t (onward base (m * base + digit_of y) (xs ++ (x ∷ []))) None ≡ next base x (cond t (onward base (m * base + digit_of y) xs) None)
     go e true = e
     go e false = refl
 
-pub digits_back : (base k n : ℕ) → 0 < base → base ≤ 16 → n < base ^ k → onward base 0 (digits_of base k n) ≡ Is n
+pub digits_back : (base k n : ℕ) → 0 < base → base ≤ 16 → n < base ^ k → onward base 0 (digits_of base k n) ≡ Some n
 unfolding digits_of onward next
 digits_back base zero n p q h = let e : n ≡ 0 = omega (arith, rw pow-zero at h) in rw e
 digits_back base (suc k) n p q h =
     let l : n / base < base ^ k = (div-lt_iff_lt-mul p).1 (rw pow-suc at h) in
     let d : n % base < base = mod-lt n p in
     onward_last base 0 (digits_of base k (n / base)) (glyph_of (n % base))
-    ∙ rw (digits_back base k (n / base) p q l, digit_glyph (n % base) (omega arith), lt-ltb (n % base) base d) (ap Is (div-add-mod' n base))
+    ∙ rw (digits_back base k (n / base) p q l, digit_glyph (n % base) (omega arith), lt-ltb (n % base) base d) (ap Some (div-add-mod' n base))
 
-pub hex_back : (k n : ℕ) → 0 < k → k ≤ 16 → n < 16 ^ k → n < 2 ^ 64 → hex_of k (digits_of 16 k n) ≡ Is n
+pub hex_back : (k n : ℕ) → 0 < k → k ≤ 16 → n < 16 ^ k → n < 2 ^ 64 → hex_of k (digits_of 16 k n) ≡ Some n
 unfolding hex_of number_of bounded
 hex_back k n p q h l =
     let e : k ≡ 0 → ⊥ = λ z. omega arith in
@@ -98,7 +91,7 @@ plain [] h f = absurd (omega arith)
 plain (x ∷ []) h f = refl
 plain (x ∷ (y ∷ xs)) h f = rw (ne_eqb x 48 (f (omega arith)))
 
-pub decimal_back : (n : ℕ) → n < 2 ^ 64 → decimal_of (text_of n) ≡ Is n
+pub decimal_back : (n : ℕ) → n < 2 ^ 64 → decimal_of (text_of n) ≡ Some n
 unfolding text_of number_of bounded
 decimal_back n l =
     let e : length (digits_of 10 (places_of n n) n) ≡ places_of n n = length_digits 10 (places_of n n) n in

@@ -1,18 +1,10 @@
 -- What is read is what would be written: a list that reads as a number is that number's digits, or its decimal; and how far such a list goes, and which bytes it has not.
 -- Assumes nothing.
-use Prim.Native.Nat.{ℕ, zero, suc, ◌+◌, ◌-◌, ◌*◌, ◌/◌, ◌%◌, ◌^◌, ◌≤◌, ◌<◌}
-use mathlib.Core.Path.{◌≡◌, refl, ap}
-use mathlib.Core.Bool.{Bool, true, false, cond}
-use mathlib.Core.List.{List, [], ◌∷◌, ◌++◌}
-use native.Mathlib.Nat.{div-lt_iff_lt-mul, le-div_iff_mul-le, div-div-eq-div-mul, div-eq_of_lt, div-one, mul-add-div_right, mul-add-mod_self_right, mod-eq_of_lt, pow-suc, pow-succ', pow-zero, one-le-pow}
-use native.Mathlib.Omega.{arith}
-use lib.ListN.{length, length-append}
-use lib.Dec.{eqb, leb, ltb}
-use borrow.Author.Tests.{lt-ltb, le-ltb, ne_eqb, ltb-true, ltb-false, leb-true, eqb-true, eqb-false}
+use Rattle.std.proofs.lemmas.Bool.{eqb-false}
+use Rattle.std.proofs.Common.{ℕ, zero, suc, ◌+◌, ◌-◌, ◌*◌, ◌/◌, ◌%◌, ◌^◌, ◌≤◌, ◌<◌, ◌≡◌, refl, ap, Bool, true, false, cond, Option, Some, None, List, [], ◌∷◌, ◌++◌, div-lt_iff_lt-mul, le-div_iff_mul-le, div-one, mod-eq_of_lt, pow-suc, arith, length, length-append, eqb, leb, ltb, lt-ltb, le-ltb, ne_eqb, ltb-true, ltb-false, leb-true, eqb-true}
+use Rattle.std.proofs.Math.Nat.{div-div-eq-div-mul, div-eq_of_lt, mul-add-div_right, mul-add-mod_self_right, pow-succ', pow-zero, one-le-pow}
 use Rattle.fields.specs.Read.{before, digit_of, onward, bounded, number_of, hex_of, decimal_of}
 use Rattle.fields.specs.Write.{glyph_of, digits_of, places_of, text_of}
-use Rattle.fields.specs.declared.Number.{Number}
-use Rattle.fields.specs.declared.Number.TheVariants.{Is, Bad}
 use Rattle.fields.proofs.Writing.{places_one, length_digits}
 
 glyph_digit : (x : ℕ) → digit_of x < 16 → glyph_of (digit_of x) ≡ x
@@ -40,13 +32,13 @@ digits_first base zero n = rw (pow-zero, div-one)
 digits_first base (suc k) n = rw (digits_first base k (n / base), div-div-eq-div-mul, pow-succ')
 
 -- what a list of digits spells: the number that stood before it is what is left without its last digits, and those are the list
-spelled : (base m n : ℕ) (xs : List ℕ) → base ≤ 16 → onward base m xs ≡ Is n → (n / base ^ length xs ≡ m) × (xs ≡ digits_of base (length xs) n)
+spelled : (base m n : ℕ) (xs : List ℕ) → base ≤ 16 → onward base m xs ≡ Some n → (n / base ^ length xs ≡ m) × (xs ≡ digits_of base (length xs) n)
 unfolding onward digits_of
 spelled base m n [] q e = (rw (pow-zero, div-one) (cc), refl)
 spelled base m n (x ∷ xs) q e = go (spelled base (m * base + digit_of x) n xs q) (ltb (digit_of x) base) refl e
   where
-    go : (onward base (m * base + digit_of x) xs ≡ Is n → (n / base ^ length xs ≡ m * base + digit_of x) × (xs ≡ digits_of base (length xs) n))
-        → (t : Bool) → ltb (digit_of x) base ≡ t → cond t (onward base (m * base + digit_of x) xs) Bad ≡ Is n
+    go : (onward base (m * base + digit_of x) xs ≡ Some n → (n / base ^ length xs ≡ m * base + digit_of x) × (xs ≡ digits_of base (length xs) n))
+        → (t : Bool) → ltb (digit_of x) base ≡ t → cond t (onward base (m * base + digit_of x) xs) None ≡ Some n
         → (n / base ^ suc (length xs) ≡ m) × (x ∷ xs ≡ digits_of base (suc (length xs)) n)
     go rest true l e =
         let d : digit_of x < base = ltb-true (digit_of x) base l in
@@ -59,27 +51,27 @@ spelled base m n (x ∷ xs) q e = go (spelled base (m * base + digit_of x) n xs 
         )
     go rest false l e = let z : ◌≡◌ {A = ℕ} 0 1 = cc in absurd (omega arith)
 
-bounded_forth : (r : Number) (n : ℕ) → bounded r ≡ Is n → (r ≡ Is n) × (n < 2 ^ 64)
+bounded_forth : (r : Option ℕ) (n : ℕ) → bounded r ≡ Some n → (r ≡ Some n) × (n < 2 ^ 64)
 unfolding bounded
-bounded_forth (Is m) n e = go (ltb m (2 ^ 64)) refl e
+bounded_forth (Some m) n e = go (ltb m (2 ^ 64)) refl e
   where
-    go : (t : Bool) → ltb m (2 ^ 64) ≡ t → cond t (Is m) Bad ≡ Is n → (Is m ≡ Is n) × (n < 2 ^ 64)
+    go : (t : Bool) → ltb m (2 ^ 64) ≡ t → cond t (Some m) None ≡ Some n → (Some m ≡ Some n) × (n < 2 ^ 64)
     go true l e = let q : m ≡ n = cc in (e, omega (arith, ltb-true m (2 ^ 64) l))
     go false l e = let z : ◌≡◌ {A = ℕ} 0 1 = cc in absurd (omega arith)
-bounded_forth Bad n e = let z : ◌≡◌ {A = ℕ} 0 1 = cc in absurd (omega arith)
+bounded_forth None n e = let z : ◌≡◌ {A = ℕ} 0 1 = cc in absurd (omega arith)
 
 -- a quotient of 0 bounds the number
 below : (n b : ℕ) → 0 < b → n / b ≡ 0 → n < b
 below n b p e = omega (arith, (div-lt_iff_lt-mul {k = b} {x = n} {y = 1} p).0 (omega arith))
 
-pub hex_forth : (k n : ℕ) (xs : List ℕ) → hex_of k xs ≡ Is n → (n < 16 ^ k) × (n < 2 ^ 64) × (xs ≡ digits_of 16 k n)
+pub hex_forth : (k n : ℕ) (xs : List ℕ) → hex_of k xs ≡ Some n → (n < 16 ^ k) × (n < 2 ^ 64) × (xs ≡ digits_of 16 k n)
 unfolding hex_of number_of
 hex_forth k n xs e = go (eqb k 0) (leb k 16) (eqb (length xs) k) refl e
   where
-    go : (a b c : Bool) → eqb (length xs) k ≡ c → cond a Bad (cond b (cond c (bounded (onward 16 0 xs)) Bad) Bad) ≡ Is n
+    go : (a b c : Bool) → eqb (length xs) k ≡ c → cond a None (cond b (cond c (bounded (onward 16 0 xs)) None) None) ≡ Some n
         → (n < 16 ^ k) × (n < 2 ^ 64) × (xs ≡ digits_of 16 k n)
     go false true true l e =
-        let f : (onward 16 0 xs ≡ Is n) × (n < 2 ^ 64) = bounded_forth (onward 16 0 xs) n e in
+        let f : (onward 16 0 xs ≡ Some n) × (n < 2 ^ 64) = bounded_forth (onward 16 0 xs) n e in
         let g : (n / 16 ^ length xs ≡ 0) × (xs ≡ digits_of 16 (length xs) n) = spelled 16 0 n xs (omega arith) f.0 in
         rw (← eqb-true (length xs) k l) (below n (16 ^ length xs) (one-le-pow (length xs) 16 (omega arith)) g.0, f.1, g.1)
     go false true false l e = let z : ◌≡◌ {A = ℕ} 0 1 = cc in absurd (omega arith)
@@ -87,7 +79,7 @@ hex_forth k n xs e = go (eqb k 0) (leb k 16) (eqb (length xs) k) refl e
     go true b c l e = let z : ◌≡◌ {A = ℕ} 0 1 = cc in absurd (omega arith)
 
 -- how many digits there are, by the powers of ten between which the number lies
-places_between : (k most n : ℕ) → 10 ^ k ≤ n → n < 10 ^ suc k → n ≤ most → places_of most n ≡ suc k
+pub places_between : (k most n : ℕ) → 10 ^ k ≤ n → n < 10 ^ suc k → n ≤ most → places_of most n ≡ suc k
 unfolding places_of
 places_between zero most n h l m = places_one most n (omega arith)
 places_between (suc k) zero n h l m = absurd (omega (arith, one-le-pow (suc k) 10 (omega arith)))
@@ -98,11 +90,11 @@ places_between (suc k) (suc most) n h l m =
     rw (le-ltb n 10 ten) (ap suc (places_between k most (n / 10) low high (omega arith)))
 
 -- a first digit that is not `0` makes the number as large as its place
-leading : (x n : ℕ) (xs : List ℕ) → onward 10 0 (x ∷ xs) ≡ Is n → (x ≡ 48 → ⊥) → 10 ^ length xs ≤ n
+leading : (x n : ℕ) (xs : List ℕ) → onward 10 0 (x ∷ xs) ≡ Some n → (x ≡ 48 → ⊥) → 10 ^ length xs ≤ n
 unfolding onward glyph_of
 leading x n xs e u = go (ltb (digit_of x) 10) refl e
   where
-    go : (t : Bool) → ltb (digit_of x) 10 ≡ t → cond t (onward 10 (0 * 10 + digit_of x) xs) Bad ≡ Is n → 10 ^ length xs ≤ n
+    go : (t : Bool) → ltb (digit_of x) 10 ≡ t → cond t (onward 10 (0 * 10 + digit_of x) xs) None ≡ Some n → 10 ^ length xs ≤ n
     go true l e =
         let d : digit_of x < 10 = ltb-true (digit_of x) 10 l in
         let g : glyph_of (digit_of x) ≡ x = glyph_digit x (omega arith) in
@@ -114,25 +106,25 @@ leading x n xs e u = go (ltb (digit_of x) 10) refl e
 
 module _ (x n : ℕ) (xs : List ℕ) (h : (0 < length xs) → x ≡ 48 → ⊥) where
   -- digits of which the first is not `0`, unless it stands alone
-  plain_forth : number_of 10 (x ∷ xs) ≡ Is n → (n < 2 ^ 64) × (x ∷ xs ≡ text_of n)
+  plain_forth : number_of 10 (x ∷ xs) ≡ Some n → (n < 2 ^ 64) × (x ∷ xs ≡ text_of n)
   unfolding number_of text_of
   plain_forth e =
-      let f : (onward 10 0 (x ∷ xs) ≡ Is n) × (n < 2 ^ 64) = bounded_forth (onward 10 0 (x ∷ xs)) n e in
+      let f : (onward 10 0 (x ∷ xs) ≡ Some n) × (n < 2 ^ 64) = bounded_forth (onward 10 0 (x ∷ xs)) n e in
       let g : (n / 10 ^ suc (length xs) ≡ 0) × (x ∷ xs ≡ digits_of 10 (suc (length xs)) n) = spelled 10 0 n (x ∷ xs) (omega arith) f.0 in
       let high : n < 10 ^ suc (length xs) = below n (10 ^ suc (length xs)) (one-le-pow (suc (length xs)) 10 (omega arith)) g.0 in
       (f.1, rw (places xs h f.0 high) g.1)
     where
-      places : (ys : List ℕ) → ((0 < length ys) → x ≡ 48 → ⊥) → onward 10 0 (x ∷ ys) ≡ Is n → n < 10 ^ suc (length ys) → places_of n n ≡ suc (length ys)
+      places : (ys : List ℕ) → ((0 < length ys) → x ≡ 48 → ⊥) → onward 10 0 (x ∷ ys) ≡ Some n → n < 10 ^ suc (length ys) → places_of n n ≡ suc (length ys)
       places [] k e l = places_one n n (omega arith)
       places (y ∷ ys) k e l = places_between (length (y ∷ ys)) n n (leading x n (y ∷ ys) e (k (omega arith))) l (omega arith)
 
-pub decimal_forth : (n : ℕ) (xs : List ℕ) → decimal_of xs ≡ Is n → (n < 2 ^ 64) × (xs ≡ text_of n)
+pub decimal_forth : (n : ℕ) (xs : List ℕ) → decimal_of xs ≡ Some n → (n < 2 ^ 64) × (xs ≡ text_of n)
 unfolding decimal_of
 decimal_forth n [] e = let z : ◌≡◌ {A = ℕ} 0 1 = cc in absurd (omega arith)
 decimal_forth n (x ∷ []) e = plain_forth x n [] (λ h. absurd (omega arith)) e
 decimal_forth n (x ∷ (y ∷ xs)) e = go (eqb x 48) refl e
   where
-    go : (t : Bool) → eqb x 48 ≡ t → cond t Bad (number_of 10 (x ∷ (y ∷ xs))) ≡ Is n → (n < 2 ^ 64) × (x ∷ (y ∷ xs) ≡ text_of n)
+    go : (t : Bool) → eqb x 48 ≡ t → cond t None (number_of 10 (x ∷ (y ∷ xs))) ≡ Some n → (n < 2 ^ 64) × (x ∷ (y ∷ xs) ≡ text_of n)
     go true u e = let z : ◌≡◌ {A = ℕ} 0 1 = cc in absurd (omega arith)
     go false u e = plain_forth x n (y ∷ xs) (λ h. eqb-false x 48 u) e
 

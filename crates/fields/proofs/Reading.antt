@@ -1,85 +1,88 @@
--- How `place_of` and `onward` go over a list, a place at a time, as the loops do. Assumes nothing.
-use Prim.Native.Nat.{ℕ, suc, ◌+◌, ◌-◌, ◌*◌, ◌/◌, ◌^◌, ◌≤◌, ◌<◌}
-use mathlib.Core.Path.{◌≡◌, refl, ap, ◌∙◌}
-use mathlib.Core.Bool.{Bool, true, false, cond}
-use mathlib.Core.List.{List, [], ◌∷◌}
-use native.Mathlib.Nat.{le-mul_of_pos_right, le-div_iff_mul-le, div-lt_iff_lt-mul}
-use native.Mathlib.Numerals.{add-one}
-use native.Mathlib.Omega.{arith}
-use lib.ListN.{length, take, get_or, length-take, drop_of_length-le}
-use lib.Seq.{slice, slice-cons, drop-cons, get_or-take, length-take-le, length-slice}
-use lib.Dec.{eqb, leb, ltb}
-use borrow.Author.Tests.{eq-eqb, ne_eqb, lt-ltb, le-ltb, le-leb, lt-leb, ltb-true}
+-- How `place_of` and `onward` go over a list, and what is read in a part of one. Assumes nothing.
+use Rattle.std.proofs.Common.{min, ℕ, suc, ◌+◌, ◌-◌, ◌*◌, ◌^◌, ◌≤◌, ◌<◌, ◌≡◌, refl, sym, ap, ◌∙◌, Bool, true, false, cond, Option, Some, None, List, [], ◌∷◌, le-mul_of_pos_right, add-one, arith, length, take, get_or, length-take, drop, drop_of_length-le, drop-cons, eqb, leb, ltb, ne_eqb, lt-ltb, le-ltb, le-leb, ltb-true, ltb-false, Bor, unwrap_or, MatchOption, inl, inr, position}
+use Rattle.std.proofs.Math.Seq.{slice}
+use Rattle.std.specs.List.{position_or_len}
+use Rattle.std.proofs.lemmas.Bool.{eqb-false, lt-leb}
+use Rattle.std.specs.Slice.{IsGetRangeResult}
+use Rattle.std.proofs.lemmas.List.{take_min}
+use Rattle.std.proofs.lemmas.Slice.{between_is}
+use Rattle.std.proofs.lemmas.List.Recursion.{is_position_or_len}
 use Rattle.fields.specs.Read.{before, place_of, digit_of, onward, bounded, number_of, hex_of, decimal_of, read_in}
-use Rattle.fields.specs.declared.Number.{Number}
-use Rattle.fields.specs.declared.Number.TheVariants.{Is, Bad}
 
-module _ (b i end stop : ℕ) (s : List ℕ) (e : stop ≡ length (take end s)) where
-  within : i < stop → i < end
-  within h = omega (arith, length-take end s)
+pub before_found : (b : ℕ) (xs : List ℕ) → before b xs ≡ position_or_len (λ x. eqb x b) xs
+unfolding before
+before_found b = is_position_or_len (before b) (λ x. eqb x b) refl (λ x xs. ap (cond (eqb x b) 0) (omega arith))
 
-  pub place_hit : i < stop → get_or s i 0 ≡ b → place_of b i (take end s) ≡ i
+before_most : (b : ℕ) (xs : List ℕ) → before b xs ≤ length xs
+unfolding before
+before_most b [] = omega arith
+before_most b (x ∷ xs) = go (eqb x b) (before_most b xs)
+  where
+    go : (t : Bool) → before b xs ≤ length xs → cond t 0 (suc (before b xs)) ≤ suc (length xs)
+    go true h = omega arith
+    go false h = omega arith
+
+-- the place by the position of the first b in the part that is looked through
+module _ (b at end stop : ℕ) (s : List ℕ) (e : stop ≡ min end (length s)) where
+  abbrev pub part : List ℕ
+  part = take (stop - at) (drop at s)
+
+  part_is : part ≡ drop at (take end s)
+  part_is = between_is s at stop ∙ rw (e, take_min)
+
+  pub place_past : stop ≤ at → stop ≡ place_of b at (take end s)
   unfolding place_of before
-  place_hit h q =
-      let l : i < length (take end s) = omega arith in
-      rw (drop-cons (take end s) i 0 l, get_or-take end s i 0 (within h), eq-eqb _ _ q) (omega arith)
+  place_past h =
+      let l : length (take end s) ≤ at = rw length-take (omega arith) in
+      rw (drop_of_length-le (take end s) l, length-take) (omega arith)
 
-  pub place_miss : i < stop → (get_or s i 0 ≡ b → ⊥) → place_of b i (take end s) ≡ place_of b (i + 1) (take end s)
-  unfolding place_of before
-  place_miss h q =
-      let l : i < length (take end s) = omega arith in
-      rw (drop-cons (take end s) i 0 l, get_or-take end s i 0 (within h), ne_eqb _ _ q, add-one) (omega arith)
+  place_is : at ≤ stop → place_of b at (take end s) ≡ at + before b part
+  unfolding place_of
+  place_is h = rw (part_is, length-take) (omega arith)
 
-  pub place_end : stop ≤ i → place_of b i (take end s) ≡ stop
-  unfolding place_of before
-  place_end h =
-      let l : length (take end s) ≤ i = omega arith in
-      rw (drop_of_length-le (take end s) l) (omega arith)
+  pub place_found : at ≤ stop → (r : Option ℕ) → r ≡ position (λ x. eqb x b) part → at + unwrap_or r (length part) ≡ place_of b at (take end s)
+  place_found h r q = rw (place_is, q, ← before_found b part) (go (ltb (before b part) (length part)) refl)
+    where
+      go : (t : Bool) → ltb (before b part) (length part) ≡ t → at + unwrap_or (cond t (Some (before b part)) None) (length part) ≡ at + before b part
+      go true l = refl
+      go false l = omega (arith, ltb-false (before b part) (length part) l, before_most b part)
 
 -- a number of 2^64 or more stays too large
-pub too_large : (base n : ℕ) (xs : List ℕ) → 2 ^ 64 ≤ n → bounded (onward base n xs) ≡ Bad
+pub too_large : (base n : ℕ) (xs : List ℕ) → 2 ^ 64 ≤ n → bounded (onward base n xs) ≡ None
 unfolding bounded onward
 too_large base n [] h = rw (le-ltb n (2 ^ 64) h)
 too_large base n (x ∷ xs) h = go (too_large base (n * base + digit_of x) xs) (ltb (digit_of x) base) refl
   where
-    go : (2 ^ 64 ≤ n * base + digit_of x → bounded (onward base (n * base + digit_of x) xs) ≡ Bad)
-        → (t : Bool) → ltb (digit_of x) base ≡ t → bounded (cond t (onward base (n * base + digit_of x) xs) Bad) ≡ Bad
+    go : (2 ^ 64 ≤ n * base + digit_of x → bounded (onward base (n * base + digit_of x) xs) ≡ None)
+        → (t : Bool) → ltb (digit_of x) base ≡ t → bounded (cond t (onward base (n * base + digit_of x) xs) None) ≡ None
     go rest true e =
         let more : 0 < base = omega (arith, ltb-true (digit_of x) base e) in
         rest (omega (arith, le-mul_of_pos_right n more))
     go rest false e = refl
 
--- the test that the code makes before it takes a digit on: the next number is below 2^64
-module _ (base n d : ℕ) (h : d < base) (l : d < 2 ^ 64) where
-  positive : 0 < base
-  positive = omega arith
-
-  pub room : n ≤ (2 ^ 64 - 1 - d) / base → n * base + d < 2 ^ 64
-  room k = omega (arith, (le-div_iff_mul-le positive).0 k)
-
-  pub no_room : (2 ^ 64 - 1 - d) / base < n → 2 ^ 64 ≤ n * base + d
-  no_room k = omega (arith, (div-lt_iff_lt-mul positive).0 k)
-
-module _ (base n i to d : ℕ) (s : List ℕ) (e : d ≡ digit_of (get_or s i 0)) (h : i < to) (k : to ≤ length s) where
-  pub digit_bad : base ≤ d → bounded (onward base n (slice i to s)) ≡ Bad
+-- the digit at a place, and what it makes of the number before it
+module _ (base n i : ℕ) (s : List ℕ) (h : i < length s) where
+  pub digit_bad : base ≤ digit_of (get_or s i 0) → bounded (onward base n (drop i s)) ≡ None
   unfolding bounded onward
-  digit_bad q = rw (slice-cons i to s 0 h k, ← e, le-ltb d base q)
+  digit_bad q = rw (drop-cons s i 0 h, le-ltb (digit_of (get_or s i 0)) base q)
 
-  pub digit_more : d < base → onward base n (slice i to s) ≡ onward base (n * base + d) (slice (i + 1) to s)
+  pub digit_more : digit_of (get_or s i 0) < base → onward base n (drop i s) ≡ onward base (n * base + digit_of (get_or s i 0)) (drop (i + 1) s)
   unfolding onward
-  digit_more q = rw (slice-cons i to s 0 h k, ← e, lt-ltb d base q, add-one)
+  digit_more q = rw (drop-cons s i 0 h, lt-ltb (digit_of (get_or s i 0)) base q, add-one)
 
-  pub digit_over : d < base → 2 ^ 64 ≤ n * base + d → bounded (onward base n (slice i to s)) ≡ Bad
-  digit_over q r = ap bounded (digit_more q) ∙ too_large base (n * base + d) (slice (i + 1) to s) r
+  pub digit_over : digit_of (get_or s i 0) < base → 2 ^ 64 ≤ n * base + digit_of (get_or s i 0) → bounded (onward base n (drop i s)) ≡ None
+  digit_over q r = ap bounded (digit_more q) ∙ too_large base (n * base + digit_of (get_or s i 0)) (drop (i + 1) s) r
 
-pub digits_end : (base n i to : ℕ) (s : List ℕ) → to ≤ i → to ≤ length s → n < 2 ^ 64 → bounded (onward base n (slice i to s)) ≡ Is n
+pub digits_end : (base n i : ℕ) (s : List ℕ) → length s ≤ i → n < 2 ^ 64 → bounded (onward base n (drop i s)) ≡ Some n
 unfolding bounded onward
-digits_end base n i to s h k l =
-    let short : length (take to s) ≤ i = rw (length-take-le to s k) h in
-    rw (drop_of_length-le (take to s) short, lt-ltb n (2 ^ 64) l)
+digits_end base n i s h l = rw (drop_of_length-le s h, lt-ltb n (2 ^ 64) l)
 
-module _ (read : List ℕ → Number) (from to : ℕ) (s : List ℕ) where
-  pub read_out : length s < to → read_in read from to s ≡ Bad
+neither : (t : Bool) → cond {A = Option ℕ} t None None ≡ None
+neither true = refl
+neither false = refl
+
+module _ (read : List ℕ → Option ℕ) (from to : ℕ) (s : List ℕ) where
+  pub read_out : length s < to → read_in read from to s ≡ None
   unfolding read_in
   read_out h = rw (lt-leb to (length s) h)
 
@@ -87,27 +90,27 @@ module _ (read : List ℕ → Number) (from to : ℕ) (s : List ℕ) where
   unfolding read_in
   read_in_lem h = rw (le-leb to (length s) h)
 
-module _ (from to : ℕ) (s : List ℕ) (k : to ≤ length s) where
-  -- the hexadecimal digits' tests, in the places of the part
-  pub hex_in : (digits : ℕ) → read_in (hex_of digits) from to s
-      ≡ cond (eqb digits 0) Bad (cond (leb digits 16) (cond (eqb (to - from) digits) (number_of 16 (slice from to s)) Bad) Bad)
-  unfolding hex_of
-  hex_in digits = read_in_lem (hex_of digits) from to s k ∙ rw (length-slice from to s k)
+  -- what `get` gives of the part is what is read
+  pub read_got : (r : Option (Bor (List ℕ))) → IsGetRangeResult s from to r → read [] ≡ None → MatchOption r (None ≡ read_in read from to s) (λ x. read x.now ≡ read_in read from to s)
+  unfolding read_in
+  read_got None h e =
+      elim h.0 [
+        | inl l ↦ (let short : length (take to s) ≤ from = rw length-take (omega arith) in rw (drop_of_length-le (take to s) short, e) (sym (neither (leb to (length s)))))
+        | inr l ↦ rw (lt-leb to (length s) l)
+      ]
+  read_got (Some x) h e = rw (le-leb to (length s) h.0.1, h.0.2, between_is s from to)
 
-  pub decimal_none : to ≤ from → read_in decimal_of from to s ≡ Bad
-  unfolding decimal_of
-  decimal_none h =
-      let short : length (take to s) ≤ from = rw (length-take-le to s k) h in
-      read_in_lem decimal_of from to s k ∙ rw (drop_of_length-le (take to s) short)
+pub hex_none : (digits : ℕ) → hex_of digits [] ≡ None
+unfolding hex_of
+hex_none digits = go (eqb digits 0) refl
+  where
+    go : (t : Bool) → eqb digits 0 ≡ t → cond t None (cond (leb digits 16) (cond (eqb 0 digits) (number_of 16 []) None) None) ≡ None
+    go true e = refl
+    go false e = rw (ne_eqb 0 digits (λ q. eqb-false digits 0 e (sym q))) (neither (leb digits 16))
 
-  pub decimal_one : from < to → to - from ≡ 1 → read_in decimal_of from to s ≡ number_of 10 (slice from to s)
-  unfolding decimal_of
-  decimal_one h e =
-      let short : length (take to s) ≤ suc from = rw (length-take-le to s k) (omega arith) in
-      read_in_lem decimal_of from to s k ∙ rw (slice-cons from to s 0 h k, drop_of_length-le (take to s) short)
-
-  pub decimal_more : from < to → (to - from ≡ 1 → ⊥) → read_in decimal_of from to s ≡ cond (eqb (get_or s from 0) 48) Bad (number_of 10 (slice from to s))
-  unfolding decimal_of
-  decimal_more h e =
-      let l : suc from < to = omega arith in
-      read_in_lem decimal_of from to s k ∙ rw (slice-cons from to s 0 h k, slice-cons (suc from) to s 0 l k)
+-- a plain decimal by the length of the list and its first element
+pub decimal_is : (xs : List ℕ) → decimal_of xs ≡ cond (eqb (length xs) 0) None (cond (ltb 1 (length xs)) (cond (eqb (get_or xs 0 0) 48) None (number_of 10 xs)) (number_of 10 xs))
+unfolding decimal_of
+decimal_is [] = refl
+decimal_is (x ∷ []) = refl
+decimal_is (x ∷ (y ∷ xs)) = rw (ne_eqb (suc (suc (length xs))) 0 (λ q. omega arith), lt-ltb 1 (suc (suc (length xs))) (omega arith))

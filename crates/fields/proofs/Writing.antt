@@ -1,14 +1,10 @@
--- How the digits of a number are counted and laid down, one at a time, as the loops do. Assumes nothing.
-use Prim.Native.Nat.{ℕ, zero, suc, ◌+◌, ◌-◌, ◌/◌, ◌%◌, ◌≤◌, ◌<◌}
-use mathlib.Core.Path.{◌≡◌, refl, sym, ap, ◌∙◌}
-use mathlib.Core.Bool.{Bool, true, false, cond}
-use mathlib.Core.List.{List, [], ◌++◌, append_assoc}
-use native.Mathlib.Numerals.{add-one}
-use native.Mathlib.Omega.{arith}
-use lib.ListN.{length, take, drop, get_or, set, take-append-drop, length-set, length-append, length-drop}
-use lib.Seq.{take-set-le, drop-cons, get_or-set_same, drop-set-lt, paste, paste-suc, take-length, length-take-le, take_at, drop-drop, drop-append-add}
-use lib.Dec.{leb}
-use borrow.Author.Tests.{lt-ltb, le-ltb, le-leb, lt-leb, leb-true}
+-- How the digits of a number are laid down, one at a time, as the loop does, and what is put into a list. Assumes nothing.
+use Rattle.std.proofs.lemmas.Bool.{lt-leb}
+use Rattle.std.proofs.Common.{ℕ, zero, suc, ◌+◌, ◌-◌, ◌/◌, ◌%◌, ◌≤◌, ◌<◌, ◌≡◌, refl, sym, ap, ◌∙◌, Bool, true, false, cond, List, [], ◌++◌, append_assoc, arith, length, take, drop, set, take-append-drop, length-set, length-append, length-drop, drop-cons, get_or-set_same, drop-set-lt, length-take-le, take_at, drop-drop, leb, lt-ltb, le-leb, leb-true}
+use Rattle.std.proofs.Math.Seq.{drop-append-add}
+use borrow.Rule.Slice.PartMut.{put_mid}
+use Rattle.std.proofs.lemmas.Slice.{put_mid-paste}
+use Rattle.std.proofs.lemmas.List.Edits.{paste_all}
 use Rattle.fields.specs.Write.{glyph_of, digits_of, places_of, put_at, place_after}
 
 pub places_one : (most n : ℕ) → n < 10 → places_of most n ≡ 1
@@ -16,30 +12,16 @@ unfolding places_of
 places_one zero n h = refl
 places_one (suc most) n h = rw (lt-ltb n 10 h)
 
-pub places_more : (n k rest : ℕ) → 10 ≤ rest → rest + k ≤ n + 1 → places_of (n + 1 - k) rest ≡ suc (places_of (n + 1 - (k + 1)) (rest / 10))
-unfolding places_of
-places_more n k rest h l =
-    let e : n + 1 - k ≡ suc (n + 1 - (k + 1)) = omega arith in
-    rw (e, le-ltb rest 10 h)
-
-module _ (base from rest : ℕ) (out : List ℕ) where
-  pub fill_step : (i : ℕ) → from < i → i ≤ length out
-      → take from out ++ (digits_of base (i - from) rest ++ drop i out)
-      ≡ take from (set out (i - 1) (glyph_of (rest % base))) ++ (digits_of base (i - 1 - from) (rest / base) ++ drop (i - 1) (set out (i - 1) (glyph_of (rest % base))))
-  unfolding digits_of
-  fill_step zero h k = absurd (omega arith)
-  fill_step (suc j) h k =
-      let e : suc j - from ≡ suc (j - from) = omega arith in
-      let d : suc j - 1 ≡ j = omega arith in
-      let l : j < length (set out j (glyph_of (rest % base))) = rw length-set (omega arith) in
-      let u : from ≤ j = omega arith in
-      let v : j < length out = omega arith in
-      let w : j < suc j = omega arith in
-      rw (e, d, take-set-le, drop-cons (set out j (glyph_of (rest % base))) j 0 l, get_or-set_same, drop-set-lt, append_assoc)
-
-  pub fill_end : take from out ++ (digits_of base (from - from) rest ++ drop from out) ≡ out
-  unfolding digits_of
-  fill_end = let e : from - from ≡ 0 = omega arith in rw (e, take-append-drop)
+pub fill_step : (base rest i : ℕ) (out : List ℕ) → 0 < i → i ≤ length out
+    → digits_of base i rest ++ drop i out ≡ digits_of base (i - 1) (rest / base) ++ drop (i - 1) (set out (i - 1) (glyph_of (rest % base)))
+unfolding digits_of
+fill_step base rest zero out h k = absurd (omega arith)
+fill_step base rest (suc j) out h k =
+    let d : suc j - 1 ≡ j = omega arith in
+    let l : j < length (set out j (glyph_of (rest % base))) = rw length-set (omega arith) in
+    let v : j < length out = omega arith in
+    let w : j < suc j = omega arith in
+    rw (d, drop-cons (set out j (glyph_of (rest % base))) j 0 l, get_or-set_same, drop-set-lt, append_assoc)
 
 pub length_digits : (base k n : ℕ) → length (digits_of base k n) ≡ k
 unfolding digits_of
@@ -56,21 +38,9 @@ module _ (out : List ℕ) (at : ℕ) (xs : List ℕ) (n : ℕ) (e : length xs �
   unfolding put_at place_after
   full h = (rw (e, lt-leb _ _ h), rw (e, lt-leb _ _ h))
 
-module _ (out : List ℕ) (at base k n : ℕ) where
-  pub digits_fit : at + k ≤ length out
-      → (take at out ++ (digits_of base k n ++ drop (at + k) out) ≡ put_at out at (digits_of base k n)) × (at + k ≡ place_after out at (digits_of base k n))
-  digits_fit = fits out at (digits_of base k n) k (length_digits base k n)
-
-  pub digits_full : length out < at + k → (out ≡ put_at out at (digits_of base k n)) × (at ≡ place_after out at (digits_of base k n))
-  digits_full = full out at (digits_of base k n) k (length_digits base k n)
-
--- bytes copied one at a time, as the loop does: i of them are in place
-module _ (d : List ℕ) (at : ℕ) (s : List ℕ) (i : ℕ) {out : List ℕ} (e : out ≡ paste d at s i) where
-  pub copied_more : at + i < length d → i < length s → set out (at + i) (get_or s i 0) ≡ paste d at s (i + 1)
-  copied_more h l = rw (e, add-one) (paste-suc d at s i 0 h l)
-
-  pub copied_all : i ≡ length s → out ≡ take at d ++ (s ++ drop (at + length s) d)
-  copied_all q = e ∙ rw (q, take-length, append_assoc)
+  -- the same, where xs is written to the part of the list that it is to take
+  pub part_fits : {ys : List ℕ} → ys ≡ xs → at + n ≤ length out → put_mid at (at + n - at) out ys ≡ put_at out at xs
+  part_fits q h = put_mid-paste at (at + n - at) out _ xs n q (omega arith) (sym e) ∙ paste_all out at xs n (sym e) ∙ (fits h).0
 
 pub length_put : (out : List ℕ) (at : ℕ) (xs : List ℕ) → length (put_at out at xs) ≡ length out
 unfolding put_at

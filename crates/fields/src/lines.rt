@@ -4,19 +4,11 @@ ghost use Rattle.std.proofs.Math.Seq.{slice};
 ghost use Rattle.fields.specs.Read.{begins_with};
 ghost use Rattle.fields.specs.Write.{put_at};
 
-use crate::least;
-
 // Whether `byte` is the first of the bytes of s from `from` up to `to`.
 pub fn begins(s: &[u8], from: usize, to: usize, byte: u8) -> bool
     ensures { result ≡ begins_with byte (slice from to s.now) }
 {
-    if s.len() <= from {
-        return false;
-    }
-    if to <= from {
-        return false;
-    }
-    s[from] == byte
+    from < to.min(s.len()) && s[from] == byte
 }
 
 // Moves the bytes of buf from `from` up to `to` to its front, and says how many they are.
@@ -24,13 +16,10 @@ pub fn shift(buf: &mut [u8], from: usize, to: usize) -> usize
     ensures buf_after { buf.new ≡ put_at buf.old 0 (slice from to buf.old) }
     ensures value { result ≡ length (slice from to buf.old) }
 {
-    let stop = least(to, buf.len());
-    let mut i = 0;
-    let mut place = from;
-    while place < stop {
-        buf[i] = buf[place];
-        i += 1;
-        place += 1;
+    let stop = to.min(buf.len());
+    if stop <= from {
+        return 0;
     }
-    i
+    buf.copy_within(from..stop, 0);
+    stop - from
 }

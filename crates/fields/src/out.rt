@@ -1,6 +1,6 @@
 // Writes into a lent slice, from a place on. Each function answers the place after what it wrote;
 // where that does not fit it writes nothing and answers the place it was given.
-ghost use Rattle.std.specs.Prelude.{◌≡◌, ◌++◌, ◌∷◌, [], ◌+◌, ◌-◌, ◌≤◌, ◌<◌, length, take, drop};
+ghost use Rattle.std.specs.Prelude.{◌≡◌, ◌∷◌, [], ◌≤◌, ◌<◌, length};
 ghost use Rattle.fields.specs.Write.{glyph_of, digits_of, places_of, text_of, put_at, place_after};
 
 // The last `digits` digits of n in upper case hexadecimal.
@@ -12,6 +12,7 @@ pub fn put_hex(out: &mut [u8], at: usize, n: u64, digits: usize) -> usize
 }
 
 // n as a plain decimal.
+#[tactic(auto, unfolding(crate::specs::Write::text_of))]
 pub fn put_decimal(out: &mut [u8], at: usize, n: u64) -> usize
     ensures out_after { out.new ≡ put_at out.old at (text_of n) }
     ensures value { result ≡ place_after out.old at (text_of n) }
@@ -36,26 +37,11 @@ pub fn put_bytes(out: &mut [u8], at: usize, s: &[u8]) -> usize
     ensures out_after { out.new ≡ put_at out.old at s.now }
     ensures value { result ≡ place_after out.old at s.now }
 {
-    if out.len() < at {
+    if out.len() < at || out.len() - at < s.len() {
         return at;
     }
-    if out.len() - at < s.len() {
-        return at;
-    }
-    copy(out, at, s);
+    out[at..at + s.len()].copy_from_slice(s);
     at + s.len()
-}
-
-// The bytes of s, from `at` on.
-fn copy(out: &mut [u8], at: usize, s: &[u8])
-    requires { at + length s.now ≤ length out.old }
-    ensures { out.new ≡ take at out.old ++ (s.now ++ drop (at + length s.now) out.old) }
-{
-    let mut i = 0;
-    while i < s.len() {
-        out[at + i] = s[i];
-        i += 1;
-    }
 }
 
 // The last `digits` digits of n in base.
@@ -64,26 +50,20 @@ fn spell(out: &mut [u8], at: usize, digits: usize, n: u64, base: u64) -> usize
     ensures out_after { out.new ≡ put_at out.old at (digits_of base digits n) }
     ensures value { result ≡ place_after out.old at (digits_of base digits n) }
 {
-    if out.len() < at {
+    if out.len() < at || out.len() - at < digits {
         return at;
     }
-    if out.len() - at < digits {
-        return at;
-    }
-    fill(out, at, at + digits, n, base);
+    fill(&mut out[at..at + digits], n, base);
     at + digits
 }
 
-// The last digits of n in base, from `from` up to `to`. The lowest goes first.
-fn fill(out: &mut [u8], from: usize, to: usize, n: u64, base: u64)
-    requires base_nonzero { (0 < base) × (base ≤ 16) }
-    requires from_le_to { (from ≤ to) × (to ≤ length out.old) }
-    ensures { out.new ≡ take from out.old ++ (digits_of base (to - from) n ++ drop to out.old) }
+// The last digits of n in base, as many as out has room for. The lowest goes first, to the end.
+fn fill(out: &mut [u8], n: u64, base: u64)
+    requires { (0 < base) × (base ≤ 16) }
+    ensures { out.new ≡ digits_of base (length out.old) n }
 {
-    let mut i = to;
     let mut rest = n;
-    while from < i {
-        i -= 1;
+    for i in (0..out.len()).rev() {
         out[i] = glyph(rest % base);
         rest /= base;
     }
@@ -93,21 +73,20 @@ fn fill(out: &mut [u8], from: usize, to: usize, n: u64, base: u64)
 pub fn places(n: u64) -> usize
     ensures { result ≡ places_of n n }
 {
-    let mut k = 1;
-    let mut rest = n;
-    while 10 <= rest {
-        rest /= 10;
-        k += 1;
+    match n.checked_ilog10() {
+        Some(k) => k as usize + 1,
+        None => 1,
     }
-    k
 }
 
+#[tactic(auto, using(std::proofs::lemmas::Bool::Decides::nat_tests), unfolding(crate::specs::Write::glyph_of))]
 fn glyph(d: u64) -> u8
     requires { d < 16 }
     ensures { result ≡ glyph_of d }
 {
     if d < 10 {
-        return b'0' + d as u8;
+        b'0' + d as u8
+    } else {
+        b'A' + (d - 10) as u8
     }
-    b'A' + (d - 10) as u8
 }

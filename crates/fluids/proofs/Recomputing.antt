@@ -1,10 +1,5 @@
 -- What the check has shown where it refuses nothing, and what the call then leaves. Assumes nothing.
-use mathlib.Core.Path.{◌≡◌, refl, sym, ap, ◌∙◌}
-use mathlib.Core.Bool.{Bool, true, false, cond}
-use mathlib.Core.List.{List, [], ◌∷◌}
-use Prim.Native.Nat.{ℕ, ◌*◌}
-use lib.Ieee.{Float}
-use lib.ListN.{length}
+use Rattle.std.proofs.Common.{◌≡◌, refl, sym, ap, ◌∙◌, Bool, true, false, cond, List, [], ◌∷◌, ℕ, ◌*◌, Float, length}
 use Rattle.packing.specs.Ids.{dim2, region}
 use Rattle.numeric.specs.Bits.{none}
 use Rattle.numeric.specs.Kernel.{precompute_weights}
@@ -13,10 +8,9 @@ use Rattle.laws.specs.Hits.{run}
 use Rattle.laws.proofs.Hits as Hits
 use Rattle.cells.specs.Cells.{cell_associated_to_point}
 use Rattle.cells.specs.Stencil.{dir_to_associated_grid_node}
-use Rattle.grid.specs.Answers.{refused}
+use Rattle.grid.specs.Answers.{refused, done}
 use Rattle.grid.specs.Nodes.{node_form, node_at, nodes, region_cells, reads, stores}
 use Rattle.grid.specs.Table.{good_width}
-use Rattle.grid.specs.declared.Answer.TheVariants.{Done}
 use Rattle.grid.specs.declared.grid_node.GridNode.{GridNode}
 use Rattle.grid.proofs.Changing as Changing
 use Rattle.particles.specs.Blocks.{IsBlock}
@@ -32,9 +26,9 @@ use Rattle.gather.proofs.Gathering as Gathering
 use Rattle.fluids.specs.Fluids.{gathered, with_volume, recomputed, weighing, gathered_in, recomputed_in, massless, volumes, emptied, particles_after, nodes_after, fluids_check, AllButVolume, Laws}
 
 pub ready : (h : Float) (regions : ℕ) (ids ranges : List ℕ) (count : ℕ) (q : Store) (nf : List Float) (nw : List ℕ)
-    → refused (fluids_check h regions ids ranges count q (length nf) (length nw)) ≡ false → Staged Done h regions ids ranges count q (store nf nw)
+    → refused (fluids_check h regions ids ranges count q (length nf) (length nw)) ≡ false → Staged done h regions ids ranges count q (store nf nw)
 unfolding fluids_check
-ready h regions ids ranges count q nf nw e = staged (good_width h ∷ []) Done h regions ids ranges count q nf nw e
+ready h regions ids ranges count q nf nw e = staged (good_width h ∷ []) done h regions ids ranges count q nf nw e
 
 -- ---- particles
 
@@ -68,7 +62,7 @@ weighed_keeps : (h : Float) (q : Particle) (shift : List ℕ) (n : GridNode) →
 unfolding weighed weighed_node
 weighed_keeps h q shift n = refl
 
-module _ (h : Float) (regions : ℕ) (ids ranges : List ℕ) (count : ℕ) (q s : Store) (staged : Staged Done h regions ids ranges count q s) where
+module _ (h : Float) (regions : ℕ) (ids ranges : List ℕ) (count : ℕ) (q s : Store) (staged : Staged done h regions ids ranges count q s) where
   abbrev places : ℕ
   places = length ids * region_cells
 

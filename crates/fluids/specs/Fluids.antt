@@ -1,6 +1,7 @@
 -- Document 01, "Fluids": mass only is scattered onto the nodes as they stand; for fluids F00 = (m/(gathered/(h·h)))/V0; then mass of all listed nodes is 0. And what a call is
 -- refused for. Definitions, and what is proved of them.
 -- Assumes nothing.
+use Rattle.grid.specs.Answers.{Answer, done}
 use Rattle.std.specs.Prelude.{◌≡◌, false, cond, List, [], ◌∷◌, ℕ, ◌*◌, ◌<◌, Float, length}
 use Rattle.numeric.specs.Axes.{rows, matrix}
 use Rattle.numeric.specs.Bits.{◌⊕◌, ◌⊗◌, ◌⊘◌, square, none}
@@ -10,8 +11,6 @@ use Rattle.laws.specs.Hits.{run, changes}
 use Rattle.cells.specs.Stencil.{dir_to_associated_grid_node, weight_of}
 use Rattle.grid.specs.Nodes.{node_form, node_at, nodes, region_cells}
 use Rattle.grid.specs.Table.{good_width}
-use Rattle.grid.specs.declared.Answer.{Answer}
-use Rattle.grid.specs.declared.Answer.TheVariants.{Done}
 use Rattle.grid.specs.declared.grid_node.GridNode.{GridNode}
 use Rattle.particles.specs.Blocks.{corner_of}
 use Rattle.particles.specs.Particles.{particle_form, particle_at, particles, position_of}
@@ -110,7 +109,7 @@ module _ (h : Float) (ids ranges : List ℕ) (count : ℕ) (q s : Store) where
 -- ---- what a call is refused for: 1 to 10, with h alone in 3
 
 unfoldable pub fluids_check : Float → ℕ → List ℕ → List ℕ → ℕ → Store → ℕ → ℕ → Answer
-fluids_check h regions ids ranges count q nf nw = stage_check (good_width h ∷ []) Done h regions ids ranges count q nf nw
+fluids_check h regions ids ranges count q nf nw = stage_check (good_width h ∷ []) done h regions ids ranges count q nf nw
 
 -- ---- what is proved
 

@@ -1,4 +1,5 @@
 -- What fluids' volumes are, what becomes of a node, and what a call is refused for, on values that can be followed by hand; a whole call is among solver's. Assumes nothing.
+use Rattle.grid.specs.Answers.{Answer, done, refusal}
 use Rattle.std.specs.Prelude.{false, List, [], ◌∷◌, ◌++◌, map, ◌≡◌, refl, ℕ, Float, get_or}
 use Rattle.std.proofs.Common.{ap, eq-eqb}
 use Rattle.std.specs.Float.{nan, inf}
@@ -15,8 +16,6 @@ use Rattle.cells.specs.Cells.{cell_associated_to_point}
 use Rattle.cells.specs.Stencil.{dir_to_associated_grid_node, weight_of}
 use Rattle.grid.specs.Nodes.{node_form, nodes}
 use Rattle.grid.specs.Table.{finite, least_width, greatest_width, good_width, bad_region, region_ids, before, misplaced, cover}
-use Rattle.grid.specs.declared.Answer.{Answer}
-use Rattle.grid.specs.declared.Answer.TheVariants.{Done, Refused}
 use Rattle.grid.specs.declared.Rule.TheVariants.{Length, Limit, Setting, Code, NotFinite, Cover}
 use Rattle.grid.specs.declared.grid_node.GridNode.{GridNode}
 use Rattle.particles.specs.Particles.{particle_form, particle_at, particles}
@@ -131,15 +130,15 @@ pub record Values : Type 0 where
   -- and then the nodes of the listed regions lose theirs
   pub after : (ranges : List ℕ) (q s : Store) → nodes_after one (0 ∷ 4096 ∷ []) ranges 2 q s ≡ emptied 2 (mass_scattered one (0 ∷ 4096 ∷ []) ranges q s)
   -- refusals: h out of range is 3, and its ends are not; no dt is asked
-  pub widths : map (λ (h : Float). fluids_check h 0 [] [] 0 (store [] []) 0 0) (least_width ∷ greatest_width ∷ pattern 0x357fffff ∷ pattern 0x49800001 ∷ nan ∷ inf false ∷ []) ≡ Done ∷ Done ∷ many 4 (Refused Setting 0)
+  pub widths : map (λ (h : Float). fluids_check h 0 [] [] 0 (store [] []) 0 0) (least_width ∷ greatest_width ∷ pattern 0x357fffff ∷ pattern 0x49800001 ∷ nan ∷ inf false ∷ []) ≡ done ∷ done ∷ many 4 (refusal Setting 0)
   -- a length ahead of h, and h ahead of a flag; a flag of a later particle ahead of a NaN of an earlier, that ahead of the starts and counts
-  pub length_first : asked none (0 ∷ 2 ∷ []) clean flag_of_second 111 ≡ Refused Length 0
-  pub width_first : asked none (0 ∷ 2 ∷ []) clean flag_of_second 112 ≡ Refused Setting 0
-  pub flag_first : asked one (0 ∷ 1 ∷ []) nan_of_first flag_of_second 112 ≡ Refused Code 1
-  pub number_first : asked one (0 ∷ 1 ∷ []) nan_of_first off 112 ≡ Refused NotFinite 0
-  pub left_over : asked one (0 ∷ 1 ∷ []) clean off 112 ≡ Refused Cover 1
+  pub length_first : asked none (0 ∷ 2 ∷ []) clean flag_of_second 111 ≡ refusal Length 0
+  pub width_first : asked none (0 ∷ 2 ∷ []) clean flag_of_second 112 ≡ refusal Setting 0
+  pub flag_first : asked one (0 ∷ 1 ∷ []) nan_of_first flag_of_second 112 ≡ refusal Code 1
+  pub number_first : asked one (0 ∷ 1 ∷ []) nan_of_first off 112 ≡ refusal NotFinite 0
+  pub left_over : asked one (0 ∷ 1 ∷ []) clean off 112 ≡ refusal Cover 1
   -- a count over its limit behind a length and ahead of h
-  pub limit_first : (fluids_check none 513 (many 513 0) (many 1026 0) 0 (store [] []) 57456 8208 ≡ Refused Limit 0) × (fluids_check none 513 (many 513 0) (many 1026 0) 0 (store [] []) 57456 8207 ≡ Refused Length 0)
+  pub limit_first : (fluids_check none 513 (many 513 0) (many 1026 0) 0 (store [] []) 57456 8208 ≡ refusal Limit 0) × (fluids_check none 513 (many 513 0) (many 1026 0) 0 (store [] []) 57456 8207 ≡ refusal Length 0)
 
 pub values : Values
 unfolding gathered with_volume recomputed volumes emptied particles_after nodes_after fluids_check over_cells changes hit run gather Refusals.first_of records nodes particles particle_at eval_all precompute_weights round_away dir_to_associated_grid_node finite good_width bad_region region_ids before misplaced cover bad_flag not_finite judged first_particle out_of_regions placed checked lt le neg add sub mul div round of_int of_bits to_bits

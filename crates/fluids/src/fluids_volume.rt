@@ -9,21 +9,30 @@ ghost use Rattle.grid.specs.Table.{before};
 ghost use Rattle.particles.specs.Blocks.{corner_of};
 ghost use Rattle.particles.specs.Particles.{particles};
 ghost use Rattle.particles.specs.Table.{OnGrid, Ready};
-ghost use Rattle.gather.specs.Gather.{over_column, Serves, Ranged, changes_from};
-ghost use Rattle.fluids.specs.Fluids.{weighing, gathered_in, with_volume, recomputed, recomputed_in, massless, volumes, emptied, particles_after, nodes_after, fluids_check};
+ghost use Rattle.gather.specs.Gather.{Serves, Ranged, changes_from};
+ghost use Rattle.fluids.specs.Fluids.{gathered_in, with_volume, recomputed, recomputed_in, massless, volumes, emptied, particles_after, nodes_after, fluids_check};
 
-use cells::inner::{STENCIL_SIDE, dir_to_associated_grid_node, nearest, step, weight};
-use gather::inner::node_in;
+use cells::inner::weight;
+use gather::inner::over_stencil;
 use grid::Answer;
 use grid::grid_node::{CELLS_OF_REGION, GridNode};
 use grid::inner::{count_of, is_width, read_node, start_of, write_node};
 use numeric::dim2::Matrix;
-use packing::dim2::Cell;
-use particles::inner::blocks::{block_of, corner_of};
+use particles::inner::blocks::block_of;
 use particles::inner::checks::check_stage;
+use particles::inner::spot::spot_of;
 use particles::inner::{read_particle, write_particle};
 use particles::particle::Particle;
 use scatter::inner::scatter_mass;
+
+// What mass is gathered from: the nodes of the listed regions.
+#[derive(Clone, Copy)]
+struct Masses<'a> {
+    cell_width: f32,
+    ids: &'a [u64],
+    nf: &'a [f32],
+    nw: &'a [u32],
+}
 
 // Every fluid's volume from the mass around it; or the call is refused, and nothing changes.
 pub fn recompute_fluids_volumes(
@@ -41,7 +50,7 @@ pub fn recompute_fluids_volumes(
         × (store pf.new pw.new ≡ settle (refused result) (store pf.old pw.old) (particles_after cell_width ids.now ranges.now particles (store pf.old pw.old) (store nf.old nw.old)))
         × (store nf.new nw.new ≡ settle (refused result) (store nf.old nw.old) (nodes_after cell_width ids.now ranges.now particles (store pf.old pw.old) (store nf.old nw.old))) }
 {
-    let a = check_fluids(
+    check_fluids(
         cell_width,
         regions,
         ids,
@@ -51,12 +60,9 @@ pub fn recompute_fluids_volumes(
         pw,
         nf.len(),
         nw.len(),
-    );
-    let Answer::Done = a else {
-        return a;
-    };
+    )?;
     recompute_volumes(cell_width, ids, ranges, pf, pw, nf, nw);
-    Answer::Done
+    Ok(())
 }
 
 fn check_fluids(
@@ -74,7 +80,7 @@ fn check_fluids(
 {
     check_stage(
         is_width(cell_width),
-        Answer::Done,
+        Ok(()),
         cell_width,
         regions,
         ids,
@@ -102,117 +108,79 @@ fn recompute_volumes(
         × (store nf.new nw.new ≡ nodes_after cell_width ids.now ranges.now (before ranges.now (length ids.now)) (store pf.old pw.old) (store nf.old nw.old)) }
 {
     scatter_mass(cell_width, ids, ranges, pf, pw, nf, nw);
-    gather_volumes(cell_width, ids, ranges, pf, pw, nf, nw);
+    let masses = Masses {
+        cell_width,
+        ids,
+        nf,
+        nw,
+    };
+    gather_volumes(masses, ranges, pf, pw);
     reset_masses(ids.len(), nf, nw);
 }
 
 // Region by region, each by the places of its block.
-fn gather_volumes(
-    cell_width: f32,
-    ids: &[u64],
-    ranges: &[u64],
-    pf: &mut [f32],
-    pw: &mut [u32],
-    nf: &[f32],
-    nw: &[u32],
-)
-    requires { Ready cell_width ids.now ranges.now (store pf.old pw.old) (store nf.now nw.now) }
-    ensures { store pf.new pw.new ≡ volumes cell_width ids.now (store nf.now nw.now) (before ranges.now (length ids.now)) (store pf.old pw.old) }
+fn gather_volumes(masses: Masses, ranges: &[u64], pf: &mut [f32], pw: &mut [u32])
+    requires { Ready masses.cell_width masses.ids.now ranges.now (store pf.old pw.old) (store masses.nf.now masses.nw.now) }
+    ensures { let m = masses.entry in store pf.new pw.new ≡ volumes m.cell_width m.ids.now (store m.nf.now m.nw.now) (before ranges.now (length m.ids.now)) (store pf.old pw.old) }
 {
-    let mut r = 0;
-    while r < ids.len() {
+    for (r, id) in masses.ids.iter().enumerate() {
         gather_range(
-            cell_width,
-            ids,
-            ids[r],
+            masses,
+            *id,
             start_of(ranges, r),
             count_of(ranges, r),
             pf,
             pw,
-            nf,
-            nw,
         );
-        r += 1;
     }
 }
 
 // `count` particles of a region, from `start` on.
 fn gather_range(
-    cell_width: f32,
-    ids: &[u64],
+    masses: Masses,
     region_id: u64,
     start: usize,
     count: usize,
     pf: &mut [f32],
     pw: &mut [u32],
-    nf: &[f32],
-    nw: &[u32],
 )
-    requires { Ranged cell_width ids.now region_id start count (store pf.old pw.old) (store nf.now nw.now) }
-    ensures { store pf.new pw.new ≡ run particles (changes_from (recomputed cell_width ids.now (store nf.now nw.now)) start count) (store pf.old pw.old) }
+    requires { Ranged masses.cell_width masses.ids.now region_id start count (store pf.old pw.old) (store masses.nf.now masses.nw.now) }
+    ensures { let m = masses.entry in store pf.new pw.new ≡ run particles (changes_from (recomputed m.cell_width m.ids.now (store m.nf.now m.nw.now)) start count) (store pf.old pw.old) }
 {
-    let block = block_of(ids, region_id);
-    let mut k = 0;
-    while k < count {
+    let block = block_of(masses.ids, region_id);
+    for k in 0..count {
         let p = start + k;
         let q = read_particle(pf, pw, p);
-        write_particle(pf, pw, p, recompute(cell_width, &block, q, nf, nw));
-        k += 1;
+        write_particle(pf, pw, p, recompute(masses, &block, q));
     }
 }
 
 // Only the fluids are affected.
-fn recompute(cell_width: f32, block: &[usize; 36], q: Particle, nf: &[f32], nw: &[u32]) -> Particle
-    requires { OnGrid cell_width q × Serves block.now (corner_of cell_width q) (store nf.now nw.now) }
-    ensures { result ≡ recomputed_in cell_width block.now (store nf.now nw.now) q }
+fn recompute(masses: Masses, block: &[usize; 36], q: Particle) -> Particle
+    requires { OnGrid masses.cell_width q × Serves block.now (corner_of masses.cell_width q) (store masses.nf.now masses.nw.now) }
+    ensures { let m = masses.entry in result ≡ recomputed_in m.cell_width block.now (store m.nf.now m.nw.now) q }
 {
     if q.fluid == 0 {
         return q;
     }
-    let new_mass = gather_mass(cell_width, block, q, nf, nw);
-    with_volume(cell_width, new_mass, q)
+    let new_mass = gather_mass(masses, block, q);
+    with_volume(masses.cell_width, new_mass, q)
 }
 
-// The mass on the nine nodes of a particle's stencil, column by column.
-fn gather_mass(cell_width: f32, block: &[usize; 36], q: Particle, nf: &[f32], nw: &[u32]) -> f32
-    requires { OnGrid cell_width q × Serves block.now (corner_of cell_width q) (store nf.now nw.now) }
-    ensures { result ≡ gathered_in cell_width block.now (store nf.now nw.now) q }
+// The mass on the nine nodes of a particle's stencil.
+fn gather_mass(masses: Masses, block: &[usize; 36], q: Particle) -> f32
+    requires { OnGrid masses.cell_width q × Serves block.now (corner_of masses.cell_width q) (store masses.nf.now masses.nw.now) }
+    ensures { let m = masses.entry in result ≡ gathered_in m.cell_width block.now (store m.nf.now m.nw.now) q }
 {
-    let near = nearest(cell_width, q.position);
-    let dir = dir_to_associated_grid_node(cell_width, near.at, q.position);
-    let w = numeric::dim2::precompute_weights(dir, cell_width);
-    let corner = corner_of(near.first);
-    let mut new_mass = 0.0;
-    let mut i = 0;
-    while i < STENCIL_SIDE {
-        new_mass = gather_column(block, corner, w, step(i), nf, nw, new_mass);
-        i += 1;
-    }
-    new_mass
-}
-
-// What the three nodes of a column add.
-fn gather_column(
-    block: &[usize; 36],
-    corner: usize,
-    w: [[f32; 3]; 2],
-    x: u32,
-    nf: &[f32],
-    nw: &[u32],
-    mass: f32,
-) -> f32
-    requires { (corner < 22) × (x < 3) × Serves block.now corner (store nf.now nw.now) }
-    ensures { result ≡ over_column (store nf.now nw.now) (weighing w) block.now corner x 3 mass }
-{
-    let mut new_mass = mass;
-    let mut j = 0;
-    while j < STENCIL_SIDE {
-        let y = step(j);
-        let n = node_in(block, corner, x, y, nf, nw);
-        new_mass = new_mass + weight(w, Cell { x: x, y: y }) * n.mass;
-        j += 1;
-    }
-    new_mass
+    let at = spot_of(masses.cell_width, &q);
+    over_stencil(
+        block,
+        at.corner,
+        masses.nf,
+        masses.nw,
+        0.0,
+        |mass, shift, n| mass + weight(at.weights, shift) * n.mass,
+    )
 }
 
 // The particle with its volume by a density, in F00.
@@ -221,35 +189,12 @@ fn with_volume(cell_width: f32, new_mass: f32, q: Particle) -> Particle
 {
     let new_density = new_mass / (cell_width * cell_width);
     let new_volume = q.mass / new_density;
-    let position = q.position;
-    let velocity = q.velocity;
-    let velocity_gradient = q.velocity_gradient;
-    let stress = q.stress;
-    let kinematic_vel = q.kinematic_vel;
     Particle {
-        position: position,
-        velocity: velocity,
-        velocity_gradient: velocity_gradient,
-        stress: stress,
-        mass: q.mass,
-        volume0: q.volume0,
-        phase: q.phase,
-        crack_propagation_factor: q.crack_propagation_factor,
-        psi_pos: q.psi_pos,
         deformation_gradient: Matrix {
             m00: new_volume / q.volume0,
-            m01: q.deformation_gradient.m01,
-            m10: q.deformation_gradient.m10,
-            m11: q.deformation_gradient.m11,
+            ..q.deformation_gradient
         },
-        crack_threshold: q.crack_threshold,
-        parameter1: q.parameter1,
-        parameter2: q.parameter2,
-        kinematic_vel: kinematic_vel,
-        failed: q.failed,
-        kinematic: q.kinematic,
-        fluid: q.fluid,
-        is_static: q.is_static,
+        ..q
     }
 }
 
@@ -258,26 +203,14 @@ fn reset_masses(regions: usize, nf: &mut [f32], nw: &mut [u32])
     requires { Holds node_form (store nf.old nw.old) (regions * region_cells) }
     ensures { store nf.new nw.new ≡ emptied regions (store nf.old nw.old) }
 {
-    let mut left = regions * CELLS_OF_REGION;
-    while 0 < left {
-        let k = regions * CELLS_OF_REGION - left;
+    for k in 0..regions * CELLS_OF_REGION {
         let n = read_node(nf, nw, k);
         write_node(nf, nw, k, without_mass(n));
-        left -= 1;
     }
 }
 
 fn without_mass(n: GridNode) -> GridNode
     ensures { result ≡ massless n }
 {
-    let momentum = n.momentum;
-    let velocity = n.velocity;
-    GridNode {
-        mass: 0.0,
-        momentum: momentum,
-        velocity: velocity,
-        psi_momentum: n.psi_momentum,
-        psi_mass: n.psi_mass,
-        boundary: n.boundary,
-    }
+    GridNode { mass: 0.0, ..n }
 }

@@ -1,13 +1,12 @@
 -- The checks of both halves in the steps in which the code makes them, and what they have shown where they refuse nothing. Assumes nothing.
 use Rattle.std.proofs.Common.{◌≡◌, ℕ, ◌*◌, Bool, true, false, not, ◌&&◌, eqb, List, [], ◌∷◌, length, refl, ap, ◌∙◌, eqb-true}
-use lib.Ieee.{Float}
+use Rattle.std.specs.Prelude.{Float}
 use Rattle.laws.specs.Store.{Store, store, Holds}
 use Rattle.laws.specs.Hits.{run, gather, changes}
 use Rattle.laws.specs.Refusals as Refusals
 use Rattle.laws.proofs.Refusals.{unless_passed}
-use Rattle.grid.specs.Answers.{refused, refuse, unless}
+use Rattle.grid.specs.Answers.{refused, refuse, unless, done}
 use Rattle.grid.specs.Table.{matches, limits, good_width, good_step, called, codes, is_flag, flags, numbers, before}
-use Rattle.grid.specs.declared.Answer.TheVariants.{Done}
 use Rattle.grid.specs.declared.Rule.TheVariants.{Length}
 use Rattle.grid.proofs.Lengths.{and_split, regroup}
 use Rattle.grid.proofs.Steps.{called_then, passed}
@@ -30,12 +29,12 @@ module _ (count : ℕ) (s given : Store) where
   abbrev pub fitting : Bool
   fitting = matches (particle_lengths count (length s.floats) (length s.words)) && matches (given_lengths count (length given.floats) (length given.words))
 
-  pub check_is : second_check count s given ≡ unless (called fitting (limits 0 count 0) true Done) (records_check count s given)
+  pub check_is : second_check count s given ≡ unless (called fitting (limits 0 count 0) true done) (records_check count s given)
   unfolding second_check
   check_is =
       let l = regroup (eqb (length s.floats) (count * floats_per_particle)) (eqb (length s.words) (count * words_per_particle)) (matches (given_lengths count (length given.floats) (length given.words))) in
-      ap (λ (x : Bool). unless (refuse (not x) Length 0) (unless (limits 0 count 0) (unless (records_check count s given) Done))) l
-      ∙ called_then fitting (limits 0 count 0) true Done (records_check count s given)
+      ap (λ (x : Bool). unless (refuse (not x) Length 0) (unless (limits 0 count 0) (unless (records_check count s given) done))) l
+      ∙ called_then fitting (limits 0 count 0) true done (records_check count s given)
 
   -- ---- what the second half's has shown
 
@@ -61,9 +60,9 @@ module _ (count : ℕ) (s given : Store) where
 
   pub second_fitted : refused (second_check count s given) ≡ false → Fitted
   second_fitted e =
-      let first = called fitting (limits 0 count 0) true Done in
+      let first = called fitting (limits 0 count 0) true done in
       let steps : refused (unless first (records_check count s given)) ≡ false = rw check_is at e in
-      fitted (passed fitting (limits 0 count 0) true Done (unless_passed refused first (records_check count s given) steps).0).lengths
+      fitted (passed fitting (limits 0 count 0) true done (unless_passed refused first (records_check count s given) steps).0).lengths
 
 -- ---- both halves of nothing
 

@@ -1,12 +1,11 @@
 -- What is gathered by the places of a region's block, column by column, is what is gathered over the stencil. Assumes nothing.
+use Rattle.std.specs.Prelude.{Option, Float}
 use Rattle.std.proofs.Common.{◌≡◌, ℕ, zero, suc, ◌+◌, ◌*◌, ◌<◌, ◌≤◌, true, List, [], ◌∷◌, get_or, sym, refl, ap, ◌∙◌, ap₂, arith}
-use mathlib.Core.Bool.{false≢true}
-use lib.Ieee.{Float}
+use Rattle.std.proofs.lemmas.Bool.{false≢true}
 use Rattle.packing.specs.Ids.{dim2, region, stencil_of}
 use Rattle.laws.specs.Store.{Store}
 use Rattle.cells.specs.Cells.{cell_associated_to_point}
 use Rattle.cells.specs.Stencil.{shift_at, step_at, dir_to_associated_grid_node}
-use Rattle.cells.specs.declared.Found.{Found}
 use Rattle.cells.proofs.Steps.{by_steps}
 use Rattle.grid.specs.declared.grid_node.GridNode.{GridNode}
 use Rattle.particles.specs.Blocks.{found_at, IsBlock, corner_of, place_at}
@@ -22,6 +21,18 @@ pub is_some : (k : ℕ) → is_at (found_at k) ≡ true → 0 < k
 is_some zero e = absurd (false≢true e)
 is_some (suc k) e = omega arith
 
+-- a view of a sum follows it, if it follows each node that is added
+module _ {A B : Type 0} (view : A → B) (nodes : Store) (add : List ℕ → GridNode → A → A) (seen : List ℕ → GridNode → B → B) (block : List ℕ) (corner : ℕ) (each : (x y : ℕ) (n : GridNode) (a : A) → view (add (x ∷ y ∷ []) n a) ≡ seen (x ∷ y ∷ []) n (view a)) where
+  view_column : (x n : ℕ) (a : A) → view (over_column nodes add block corner x n a) ≡ over_column nodes seen block corner x n (view a)
+  unfolding over_column
+  view_column x zero a = refl
+  view_column x (suc n) a = each _ _ _ _ ∙ ap (seen (x ∷ step_at n ∷ []) _) (view_column x n a)
+
+  pub view_columns : (n : ℕ) (a : A) → view (over_columns nodes add block corner n a) ≡ over_columns nodes seen block corner n (view a)
+  unfolding over_columns
+  view_columns zero a = refl
+  view_columns (suc n) a = view_column (step_at n) 3 _ ∙ ap (over_column nodes seen block corner (step_at n) 3) (view_columns n a)
+
 module _ (h : Float) (ids : List ℕ) (nodes : Store) (r : ℕ) (block : List ℕ) (is : IsBlock ids r block) (q : Particle) (own : region (cell_associated_to_point dim2 h (position_of q)) ≡ r) where
   abbrev stencil : List ℕ
   stencil = stencil_of dim2 (cell_associated_to_point dim2 h (position_of q))
@@ -31,7 +42,7 @@ module _ (h : Float) (ids : List ℕ) (nodes : Store) (r : ℕ) (block : List �
     one : (i j : ℕ) → i < 3 → j < 3 → (a : A)
         → add (step_at i ∷ step_at j ∷ []) (node_found nodes (place_at block (corner_of h q) (step_at i) (step_at j))) a ≡ add (shift_at dim2 (i * 3 + j)) (node_of_cell ids nodes (get_or stencil (i * 3 + j) 0)) a
     unfolding node_of_cell
-    one i j l u a = ap₂ (λ (shift : List ℕ) (p : Found). add shift (node_found nodes p) a) (sym (by_steps i j l u)) ((Blocking.laws ids r block is).stencil h q own i j l u)
+    one i j l u a = ap₂ (λ (shift : List ℕ) (p : Option ℕ). add shift (node_found nodes p) a) (sym (by_steps i j l u)) ((Blocking.laws ids r block is).stencil h q own i j l u)
 
     -- the first n of a column
     column : (i n : ℕ) → i < 3 → n ≤ 3 → over_column nodes add block (corner_of h q) (step_at i) n (over_cells ids nodes add start stencil (i * 3)) ≡ over_cells ids nodes add start stencil (i * 3 + n)

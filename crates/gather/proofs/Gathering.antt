@@ -1,6 +1,6 @@
 -- What a change of every particle leaves, whatever the change: each particle changed once, from what it held before. Assumes nothing.
 use Rattle.std.proofs.Common.{◌≡◌, ℕ, ◌<◌, List, sym, refl, ap, ◌∙◌, subst, arith}
-use lib.Ieee.{Float}
+use Rattle.std.specs.Prelude.{Float}
 use Rattle.laws.specs.Store.{Store, Holds, records, Laws as Kept}
 use Rattle.laws.specs.Hits.{run, change_at, changes}
 use Rattle.laws.proofs.Records as Records

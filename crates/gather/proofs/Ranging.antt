@@ -1,6 +1,6 @@
 -- What the particles of a region may build on while they are changed one after the other: those that are not changed yet stand where they stood. Assumes nothing.
 use Rattle.std.proofs.Common.{◌≡◌, ℕ, ◌+◌, ◌<◌, ◌≤◌, List, length, get_or, sym, ap, ◌∙◌, subst, arith}
-use lib.Ieee.{Float}
+use Rattle.std.specs.Prelude.{Float}
 use Rattle.packing.specs.Ids.{dim2, region}
 use Rattle.laws.specs.Store.{Store, Holds}
 use Rattle.laws.specs.Hits.{run, gather, change_at}

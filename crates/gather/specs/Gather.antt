@@ -1,20 +1,17 @@
 -- Document 01, "Gather": both halves, of every particle; what a call of each is refused for, in the order of the table. Definitions, and what is proved of them.
 -- Assumes nothing.
-use Rattle.std.specs.Prelude.{◌≡◌, ℕ, zero, suc, ◌+◌, ◌*◌, ◌<◌, ◌≤◌, List, [], ◌∷◌, ◌++◌, length, slice_index, slice_index_or, Float}
+use Rattle.std.specs.Prelude.{◌≡◌, ℕ, zero, suc, ◌+◌, ◌*◌, ◌<◌, ◌≤◌, List, [], ◌∷◌, ◌++◌, length, slice_index, slice_index_or, Float, None, Option, Some}
 use Rattle.std.specs.Float.{nan}
 use Rattle.packing.specs.Ids.{dim2, region, stencil_of}
+use Rattle.packing.specs.declared.dim2.Cell.{Cell}
 use Rattle.numeric.specs.Bits.{none}
 use Rattle.laws.specs.Store.{Store, store, Holds}
 use Rattle.laws.specs.Hits.{Hit, run, gather, change_at, changes}
 use Rattle.cells.specs.Cells.{cell_associated_to_point, region_associated_to_point}
 use Rattle.cells.specs.Stencil.{stencil_cells, shift_at, step_at, dir_to_associated_grid_node}
-use Rattle.cells.specs.declared.Found.{Found}
-use Rattle.cells.specs.declared.Found.TheVariants.{At, Absent}
-use Rattle.grid.specs.Answers.{first}
+use Rattle.grid.specs.Answers.{first, Answer, done}
 use Rattle.grid.specs.Nodes.{node_form, node_at, empty_node, region_cells}
 use Rattle.grid.specs.Table.{lengths, limits, good_width, good_step, settings, codes, is_flag, flags, numbers}
-use Rattle.grid.specs.declared.Answer.{Answer}
-use Rattle.grid.specs.declared.Answer.TheVariants.{Done}
 use Rattle.grid.specs.declared.Rule.TheVariants.{Code, NotFinite}
 use Rattle.grid.specs.declared.grid_node.GridNode.{GridNode}
 use Rattle.particles.specs.Particles.{particle_form, particle_at, particles, position_of}
@@ -27,9 +24,9 @@ use Rattle.gather.specs.Transfer.{Taken, Given, nothing, taken_from, on, node_of
 -- ---- the first half
 
 -- the node at a place. A cell whose region is not listed has none, and is refused with 10; it would count as empty.
-abbrev pub node_found : Store → Found → GridNode
-node_found nodes (At k) = node_at nodes k
-node_found nodes Absent = empty_node
+abbrev pub node_found : Store → Option ℕ → GridNode
+node_found nodes (Some k) = node_at nodes k
+node_found nodes None = empty_node
 
 unfoldable pub node_of_cell : List ℕ → Store → ℕ → GridNode
 node_of_cell ids nodes cell = node_found nodes (node_place ids cell)
@@ -67,6 +64,10 @@ module _ {A : Type 0} (nodes : Store) (add : List ℕ → GridNode → A → A) 
   unfoldable pub over_columns : ℕ → A → A
   over_columns zero a = a
   over_columns (suc n) a = over_column (step_at n) 3 (over_columns n a)
+
+-- whatever adds a node, it adds what `add` says
+abbrev pub Adds : {A : Type 0} → (A → Cell → GridNode → A → Type 0) → (List ℕ → GridNode → A → A) → Type 0
+Adds {A} Added add = (a b : A) (shift : Cell) (n : GridNode) → Added a shift n b → b ≡ add (shift.x ∷ shift.y ∷ []) n a
 
 -- what one node adds to what a particle has taken
 abbrev pub adding : Float → List Float → List ℕ → GridNode → Taken → Taken
@@ -203,5 +204,5 @@ pub record Empty : Type 0 where
   -- With no regions and no particles the first half is refused for its settings and its own alone, the second for nothing; with no particles both leave what they were lent.
   pub first_check_lem : (h dt : Float) (modified : ℕ) → first_check h dt modified 0 [] [] 0 (store [] []) 0 0 ≡ first (settings (good_width h ∷ good_step dt ∷ []) ∷ codes (is_flag modified ∷ []) ∷ [])
   pub first_kept : (h dt : Float) (modified : ℕ) (ids : List ℕ) (nodes s : Store) → first_half h dt modified ids nodes 0 s ≡ s
-  pub second_check_lem : second_check 0 (store [] []) (store [] []) ≡ Done
+  pub second_check_lem : second_check 0 (store [] []) (store [] []) ≡ done
   pub second_kept : (given s : Store) → second_half given 0 s ≡ s

@@ -248,7 +248,7 @@ taken_by t =
     }
 
 abbrev pub given_by : Told → Given
-given_by t = record { density = t.density; energy = t.energy; failed = on t.failed }
+given_by t = record { density = t.density; energy = t.energy; failed = t.failed }
 
 -- what becomes of a particle in each half
 unfoldable pub advanced : Bool → Float → Float → Taken → Particle → Particle

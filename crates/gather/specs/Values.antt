@@ -1,4 +1,5 @@
 -- What both halves make of a particle, and what their calls are refused for, on values that can be followed by hand; a whole first half is among solver's. Assumes nothing.
+use Rattle.grid.specs.Answers.{Answer, done, refusal}
 use Rattle.std.specs.Prelude.{◌≡◌, ℕ, zero, suc, Bool, true, false, cond, List, [], ◌∷◌, ◌++◌, map, refl, Float}
 use Rattle.std.specs.Float.{nan, inf, binary32}
 use Rattle.std.specs.Float.Ieee.{is_nan, neg, lt, le, eq, ne, sub, mul, div, of_bits, to_bits, of_int}
@@ -11,8 +12,6 @@ use Rattle.laws.specs.Hits.{hit, run, gather, changes}
 use Rattle.laws.specs.Refusals as Refusals
 use Rattle.cells.specs.Stencil.{dir_to_associated_grid_node}
 use Rattle.grid.specs.Table.{finite, flags, numbers, good_width, good_step}
-use Rattle.grid.specs.declared.Answer.{Answer}
-use Rattle.grid.specs.declared.Answer.TheVariants.{Done, Refused}
 use Rattle.grid.specs.declared.Rule.TheVariants.{Length, Setting, Code, NotFinite}
 use Rattle.particles.specs.Particles.{particle_form, particle_at, particles}
 use Rattle.particles.specs.Table.{bad_flag, not_finite, judged, first_particle, placed, checked}
@@ -247,22 +246,22 @@ pub record Values : Type 0 where
         1 ∷ 1 ∷ 0 ∷ 1 ∷ [],
       )
   -- the whole second half: the first of three particles has energy 2, the second no density, the third a given failure
-  pub second : (second_check 3 (store clean off) lost ≡ Done)
+  pub second : (second_check 3 (store clean off) lost ≡ done)
       × (map bits (second_half lost 3 (store clean off)).floats
       ≡ map bits (many 16 one ++ (two ∷ many 5 one ++ (two ∷ many 7 one ++ (many 4 none ++ (many 10 one ++ (none ∷ none ∷ many 20 one ++ (none ∷ many 11 one))))))))
       × ((second_half lost 3 (store clean off)).words ≡ many 4 0 ++ (1 ∷ many 7 0))
   -- refusals: a flag of a later particle ahead of a NaN of an earlier; in 4 and in 5 the particles ahead of what is given; 4 of that ahead of 5 of the particles; its index the particle's
-  pub flags_first : records_check 3 (store nan_of_first flag_of_second) good ≡ Refused Code 1
-  pub particles_first : (records_check 3 (store clean flag_of_second) (store (many 6 one) (2 ∷ 0 ∷ 0 ∷ [])) ≡ Refused Code 1) × (records_check 3 (store nan_of_second off) (store (nan ∷ many 5 one) (many 3 0)) ≡ Refused NotFinite 1)
-  pub given_flags : records_check 3 (store nan_of_first off) (store (many 6 one) (0 ∷ 0 ∷ 2 ∷ [])) ≡ Refused Code 2
-  pub given_numbers : (records_check 3 (store clean off) (store (many 3 one ++ (nan ∷ many 2 one)) (many 3 0)) ≡ Refused NotFinite 1)
-      × (records_check 3 (store clean off) (store (many 4 one ++ (inf true ∷ one ∷ [])) (many 3 0)) ≡ Refused NotFinite 2)
+  pub flags_first : records_check 3 (store nan_of_first flag_of_second) good ≡ refusal Code 1
+  pub particles_first : (records_check 3 (store clean flag_of_second) (store (many 6 one) (2 ∷ 0 ∷ 0 ∷ [])) ≡ refusal Code 1) × (records_check 3 (store nan_of_second off) (store (nan ∷ many 5 one) (many 3 0)) ≡ refusal NotFinite 1)
+  pub given_flags : records_check 3 (store nan_of_first off) (store (many 6 one) (0 ∷ 0 ∷ 2 ∷ [])) ≡ refusal Code 2
+  pub given_numbers : (records_check 3 (store clean off) (store (many 3 one ++ (nan ∷ many 2 one)) (many 3 0)) ≡ refusal NotFinite 1)
+      × (records_check 3 (store clean off) (store (many 4 one ++ (inf true ∷ one ∷ [])) (many 3 0)) ≡ refusal NotFinite 2)
   -- lengths ahead of all: of the particles, of what is given, and of a count over its limit
   pub lengths_first : map (λ (c : ℕ × Store × Store). second_check c.0 c.1 c.2)
       ((3, store (many 77 one) flag_of_second, good) ∷ (3, store clean flag_of_second, store (many 7 one) (many 3 0)) ∷ (3, store clean flag_of_second, store (many 6 one) (many 2 0)) ∷ (65537, store clean off, good) ∷ (3, store clean flag_of_second, good) ∷ [])
-      ≡ Refused Length 0 ∷ Refused Length 0 ∷ Refused Length 0 ∷ Refused Length 0 ∷ Refused Code 1 ∷ []
+      ≡ refusal Length 0 ∷ refusal Length 0 ∷ refusal Length 0 ∷ refusal Length 0 ∷ refusal Code 1 ∷ []
   -- of the first half: modified eigenerosion 2 ahead of a flag of the second particle, behind a bad dt, and that behind a length
-  pub own_first : (asked one 2 (many 7 0 ++ (2 ∷ [])) 112 ≡ Refused Code 0) × (asked one 1 (many 7 0 ++ (2 ∷ [])) 112 ≡ Refused Code 1) × (asked none 2 (many 8 0) 112 ≡ Refused Setting 0) × (asked none 2 (many 8 0) 111 ≡ Refused Length 0)
+  pub own_first : (asked one 2 (many 7 0 ++ (2 ∷ [])) 112 ≡ refusal Code 0) × (asked one 1 (many 7 0 ++ (2 ∷ [])) 112 ≡ refusal Code 1) × (asked none 2 (many 8 0) 112 ≡ refusal Setting 0) × (asked none 2 (many 8 0) 111 ≡ refusal Length 0)
 
 pub values : Values
 unfolding taken_from moved fails settled advanced finished second_change changes second_half first_check records_check second_check inv_d eval_all precompute_weights round_away inverse maximum magnitude hit run gather Refusals.first_of records dir_to_associated_grid_node finite flags numbers good_width good_step particle_at particles bad_flag not_finite judged first_particle placed checked is_nan lt le eq ne sub mul div of_bits to_bits of_int

@@ -1,38 +1,56 @@
 // What a call of each half is refused for, and the nodes that a stage gathers from. No host reaches this; those that read a node demand of their caller what the check has shown.
-ghost use Rattle.std.specs.Prelude.{◌≡◌, ◌*◌, ◌<◌, ◌≤◌, [], ◌∷◌, length};
+ghost use Rattle.std.specs.Prelude.{◌≡◌, ℕ, ◌*◌, ◌<◌, ◌≤◌, List, [], ◌∷◌, length};
 ghost use Rattle.laws.specs.Store.{store, Holds};
-ghost use Rattle.cells.specs.declared.Found.TheVariants.{At};
 ghost use Rattle.grid.specs.Nodes.{node_form};
 ghost use Rattle.grid.specs.Table.{is_flag, codes, matches};
 ghost use Rattle.particles.specs.Blocks.{found_at, place_at};
 ghost use Rattle.particles.specs.Particles.{floats_per_particle, words_per_particle};
-ghost use Rattle.gather.specs.Gather.{node_found, Serves, given_lengths, first_check, records_check, second_check};
+ghost use Rattle.gather.specs.Gather.{node_found, Adds, over_columns, Serves, given_lengths, first_check, records_check, second_check};
 
 use crate::grid_to_particle::{GIVEN_FLOATS, GIVEN_WORDS};
-use cells::Found;
+use cells::inner::{STENCIL_SIDE, step};
 use grid::grid_node::GridNode;
 use grid::inner::{
-    check_call, check_flags, check_limits, check_numbers, first_refusal, fits, is_step, is_width,
-    read_node,
+    check_call, check_flags, check_limits, check_numbers, fits, is_step, is_width, read_node,
+    refuse,
 };
 use grid::{Answer, Rule};
+use packing::dim2::Cell;
 use particles::inner::blocks::{BLOCK_SIDE, found_at};
 use particles::inner::checks::{check_stage, first_particle, holds_particles};
 
-// The node that lies x and y beyond the corner of a particle's stencil, by the places of its region's block.
-pub fn node_in(
+// What the nine nodes of a stencil add up to on top of `start`, column by column, by the places of its region's block.
+pub fn over_stencil<A: Copy, F: Fn(A, Cell, GridNode) -> A>(
     block: &[usize; 36],
     corner: usize,
-    x: u32,
-    y: u32,
     nf: &[f32],
     nw: &[u32],
-) -> GridNode
-    requires { (corner < 22) × (x < 3) × (y < 3) × Serves block.now corner (store nf.now nw.now) }
-    ensures { result ≡ node_found (store nf.now nw.now) (place_at block.now corner x y) }
+    start: A,
+    add: F,
+) -> A
+    requires { (corner < 22) × Serves block.now corner (store nf.now nw.now) × ((a : A) (shift : Cell) (n : GridNode) → shift.x < 3 → shift.y < 3 → F.pre add a shift n) }
+    ensures { (step : List ℕ → GridNode → A → A) → Adds (F.post add) step → result ≡ over_columns (store nf.now nw.now) step block.now corner 3 start }
+{
+    let mut sum = start;
+    for i in 0..STENCIL_SIDE {
+        for j in 0..STENCIL_SIDE {
+            let shift = Cell {
+                x: step(i),
+                y: step(j),
+            };
+            sum = add(sum, shift, node_in(block, corner, shift, nf, nw));
+        }
+    }
+    sum
+}
+
+// The node that lies by a shift beyond the corner of a stencil, by the places of its region's block.
+pub fn node_in(block: &[usize; 36], corner: usize, shift: Cell, nf: &[f32], nw: &[u32]) -> GridNode
+    requires { (corner < 22) × (shift.x < 3) × (shift.y < 3) × Serves block.now corner (store nf.now nw.now) }
+    ensures { result ≡ node_found (store nf.now nw.now) (place_at block.now corner shift.x shift.y) }
 {
     node_at(
-        block[corner + (x as usize + BLOCK_SIDE * y as usize)],
+        block[corner + (shift.x as usize + BLOCK_SIDE * shift.y as usize)],
         nf,
         nw,
     )
@@ -50,10 +68,10 @@ fn node_at(number: usize, nf: &[f32], nw: &[u32]) -> GridNode
 // a place: the arms are then one, and none of the nine nodes costs a branch.
 fn place_of(number: usize) -> usize
     requires { 0 < number }
-    ensures { found_at number ≡ At result }
+    ensures { found_at number ≡ Some result }
 {
-    let Found::At(k) = found_at(number) else {
-        return std::num::wrapping_sub_usize(number, 1);
+    let Some(k) = found_at(number) else {
+        return number.wrapping_sub(1);
     };
     k
 }
@@ -74,7 +92,7 @@ pub(crate) fn check_first_half(
     ensures { result ≡ first_check cell_width dt modified_eigenerosion regions ids.now ranges.now particles (store pf.now pw.now) nf nw }
 {
     check_stage(
-        is_width(cell_width) & is_step(dt),
+        is_width(cell_width) && is_step(dt),
         check_own(modified_eigenerosion),
         cell_width,
         regions,
@@ -88,14 +106,11 @@ pub(crate) fn check_first_half(
     )
 }
 
-// The first half's own setting in 4.
+// The first half's own setting in 4, as the host passed it: a number, of which only 0 and 1 are flags.
 fn check_own(modified_eigenerosion: u32) -> Answer
     ensures { result ≡ codes (is_flag modified_eigenerosion ∷ []) }
 {
-    if 1 < modified_eigenerosion {
-        return Answer::Refused(Rule::Code, 0);
-    }
-    Answer::Done
+    refuse(1 < modified_eigenerosion, Rule::Code, 0)
 }
 
 pub(crate) fn check_second_half(
@@ -107,15 +122,13 @@ pub(crate) fn check_second_half(
 ) -> Answer
     ensures { result ≡ second_check particles (store pf.now pw.now) (store gf.now gw.now) }
 {
-    let a = check_call(
-        holds_particles(particles, pf.len(), pw.len()) & holds_given(particles, gf.len(), gw.len()),
+    check_call(
+        holds_particles(particles, pf.len(), pw.len())
+            && holds_given(particles, gf.len(), gw.len()),
         check_limits(0, particles, 0),
         true,
-        Answer::Done,
-    );
-    let Answer::Done = a else {
-        return a;
-    };
+        Ok(()),
+    )?;
     check_records(particles, pf, pw, gf, gw)
 }
 
@@ -123,7 +136,7 @@ pub(crate) fn check_second_half(
 fn holds_given(particles: usize, gf: usize, gw: usize) -> bool
     ensures { result ≡ matches (given_lengths particles gf gw) }
 {
-    fits(gf, particles, GIVEN_FLOATS) & fits(gw, particles, GIVEN_WORDS)
+    fits(gf, particles, GIVEN_FLOATS) && fits(gw, particles, GIVEN_WORDS)
 }
 
 // Numbers 4 and 5 of the records: the particles, then what is given. Neither rule looks at the cell width or at regions.
@@ -132,14 +145,8 @@ fn check_records(particles: usize, pf: &[f32], pw: &[u32], gf: &[f32], gw: &[u32
     ensures { result ≡ records_check particles (store pf.now pw.now) (store gf.now gw.now) }
 {
     let region = [0];
-    first_refusal(
-        first_particle(Rule::Code, 0.0, &region, 0, pf, pw, 0, particles),
-        first_refusal(
-            check_flags(gw),
-            first_refusal(
-                first_particle(Rule::NotFinite, 0.0, &region, 0, pf, pw, 0, particles),
-                check_numbers(gf, GIVEN_FLOATS),
-            ),
-        ),
-    )
+    first_particle(Rule::Code, 0.0, &region, 0, pf, pw, 0, particles)?;
+    check_flags(gw)?;
+    first_particle(Rule::NotFinite, 0.0, &region, 0, pf, pw, 0, particles)?;
+    check_numbers(gf, GIVEN_FLOATS)
 }

@@ -1,8 +1,5 @@
 -- Nodes that are read, changed and written back. Assumes nothing.
-use mathlib.Core.Path.{◌≡◌, sym, ap, ◌∙◌}
-use mathlib.Core.List.{[], ◌∷◌}
-use Prim.Native.Nat.{ℕ, ◌<◌}
-use native.Mathlib.Omega.{arith}
+use Rattle.std.proofs.Common.{◌≡◌, sym, ap, ◌∙◌, [], ◌∷◌, ℕ, ◌<◌, arith}
 use Rattle.laws.specs.Store.{Store, Holds, records, Laws}
 use Rattle.laws.specs.Hits.{run, changes}
 use Rattle.laws.proofs.Records as Records

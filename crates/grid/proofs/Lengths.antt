@@ -1,19 +1,12 @@
 -- A length is a count times a size, told by quotient and remainder; and what slices of such lengths hold. Assumes nothing.
-use mathlib.Core.Path.{◌≡◌, refl, sym, ap, ◌∙◌}
-use mathlib.Core.Bool.{Bool, true, false, ◌&&◌, true≢false}
-use mathlib.Core.List.{List, ◌∷◌}
-use Prim.Native.Nat.{ℕ, ◌*◌, ◌/◌, ◌%◌, ◌<◌}
-use native.Mathlib.Nat.{div-add-mod', mul-div_cancel, mul-add-mod_self_right, zero-mod, add-zero, mul_assoc}
-use lib.Dec.{eqb}
-use lib.ListN.{length}
-use lib.Ieee.{Float}
-use borrow.Author.Tests.{eq-eqb, ne_eqb, eqb-true, eqb-false}
+use Rattle.std.proofs.lemmas.Bool.{eqb-false}
+use Rattle.std.proofs.Common.{◌≡◌, refl, sym, ap, ◌∙◌, Bool, true, false, ◌&&◌, true≢false, List, ◌∷◌, ℕ, ◌*◌, ◌/◌, ◌%◌, ◌<◌, div-add-mod', mul-div_cancel, add-zero, mul_assoc, eqb, length, Float, eq-eqb, ne_eqb, eqb-true}
+use native.Mathlib.Nat.{mul-add-mod_self_right, zero-mod}
 use Rattle.laws.specs.Store.{store, Holds}
 use Rattle.grid.specs.Nodes.{node_form, floats_per_node, words_per_node, region_cells}
-use Rattle.grid.specs.Answers.{refused, unless}
+use Rattle.grid.specs.Answers.{refused, unless, done}
 use Rattle.grid.specs.Table.{matches, lengths, node_lengths, limits, region_ids}
 use Rattle.grid.specs.Clear.{clear_check}
-use Rattle.grid.specs.declared.Answer.TheVariants.{Done}
 use Rattle.laws.proofs.Refusals.{unless_passed}
 use Rattle.grid.proofs.Answers.{lengths_passed}
 
@@ -56,5 +49,5 @@ pub clear_held : (regions : ℕ) (ids : List ℕ) (nf : List Float) (nw : List �
 unfolding clear_check
 clear_held regions ids nf nw e =
     let ps : List (ℕ × ℕ) = (length ids, regions) ∷ node_lengths regions (length nf) (length nw) in
-    let p = lengths_passed ps (unless_passed refused (lengths ps) (unless (limits regions 0 0) (unless (region_ids ids) Done)) e).0 in
+    let p = lengths_passed ps (unless_passed refused (lengths ps) (unless (limits regions 0 0) (unless (region_ids ids) done)) e).0 in
     nodes_held regions nf nw (and_split (eqb (length ids) regions) (matches (node_lengths regions (length nf) (length nw))) p).1

@@ -1,8 +1,7 @@
 -- Document 01, "Numbers a call answers": the answers of a call, their numbers and indices, and the first of several. Definitions only.
-use Rattle.std.specs.Prelude.{Bool, true, false, List, ℕ}
+use Rattle.std.specs.Prelude.{Bool, true, false, List, ℕ, Result, Ok, Err, ⊤}
 use Rattle.laws.specs.Refusals as Refusals
-use Rattle.grid.specs.declared.Answer.{Answer}
-use Rattle.grid.specs.declared.Answer.TheVariants.{Done, Refused}
+use Rattle.grid.specs.declared.Refusal.{Refusal}
 use Rattle.grid.specs.declared.Rule.{Rule}
 use Rattle.grid.specs.declared.Rule.TheVariants.{Length, Limit, Setting, Code, NotFinite, RegionIds, Cover, OffGrid, OutOfRegion, Unlisted}
 
@@ -19,30 +18,40 @@ number OffGrid = 8
 number OutOfRegion = 9
 number Unlisted = 10
 
+-- A call is done, or refused by a rule at an index.
+abbrev pub Answer : Type 0
+Answer = Result ⊤ Refusal
+
+abbrev pub done : Answer
+done = Ok tt
+
+abbrev pub refusal : Rule → ℕ → Answer
+refusal r k = Err (record { rule = r; index = k })
+
 -- The answer is the number and the first offending record's index; 0 is done.
 abbrev pub number_of : Answer → ℕ
-number_of Done = 0
-number_of (Refused r k) = number r
+number_of (Ok _) = 0
+number_of (Err e) = number e.rule
 
 abbrev pub index_of : Answer → ℕ
-index_of Done = 0
-index_of (Refused r k) = k
+index_of (Ok _) = 0
+index_of (Err e) = e.index
 
 abbrev pub refused : Answer → Bool
-refused Done = false
-refused (Refused r k) = true
+refused (Ok _) = false
+refused (Err e) = true
 
 -- refused by the rule at the index, where its condition holds
 abbrev pub refuse : Bool → Rule → ℕ → Answer
-refuse true r k = Refused r k
-refuse false r k = Done
+refuse true r k = refusal r k
+refuse false r k = done
 
 -- the first of two, of a list, of the records from i on, n of them
 abbrev pub unless : Answer → Answer → Answer
 unless a b = Refusals.unless refused a b
 
 abbrev pub first : List Answer → Answer
-first answers = Refusals.first refused Done answers
+first answers = Refusals.first refused done answers
 
 abbrev pub first_of : (ℕ → Answer) → ℕ → ℕ → Answer
-first_of judge i n = Refusals.first_of refused Done judge i n
+first_of judge i n = Refusals.first_of refused done judge i n

@@ -3,10 +3,9 @@
 use Rattle.std.specs.Prelude.{◌≡◌, List, [], ◌∷◌, ℕ, ◌+◌, ◌*◌, ◌<◌, length}
 use Rattle.laws.specs.Store.{Store, Holds}
 use Rattle.laws.specs.Hits.{Hit, run, gather}
-use Rattle.grid.specs.Answers.{first}
+use Rattle.grid.specs.Answers.{first, Answer}
 use Rattle.grid.specs.Nodes.{node_form, node_at, nodes, empty_node, region_cells}
 use Rattle.grid.specs.Table.{lengths, node_lengths, limits, region_ids}
-use Rattle.grid.specs.declared.Answer.{Answer}
 use Rattle.grid.specs.declared.grid_node.GridNode.{GridNode}
 
 -- 1, 2 and 6

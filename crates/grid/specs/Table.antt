@@ -6,9 +6,8 @@ use Rattle.std.specs.Float.{nan, inf, fin, binary32}
 use Rattle.std.specs.Float.Ieee.{le, lt, of_bits}
 use Rattle.packing.specs.Ids.{region}
 use Rattle.numeric.specs.Bits.{none}
-use Rattle.grid.specs.Answers.{refuse, unless, first, first_of}
+use Rattle.grid.specs.Answers.{refuse, unless, first, first_of, Answer}
 use Rattle.grid.specs.Nodes.{floats_per_node, words_per_node, region_cells}
-use Rattle.grid.specs.declared.Answer.{Answer}
 use Rattle.grid.specs.declared.Rule.TheVariants.{Length, Limit, Setting, Code, NotFinite, RegionIds, Cover}
 
 -- every entry of a list has it

@@ -7,7 +7,7 @@ ghost use Rattle.grid.specs.Nodes.{floats_per_node, words_per_node, node_at, put
 ghost use Rattle.grid.specs.Table.{all, matches, node_lengths, limits, finite, good_width, good_step, called, flags, numbers, bad_region, region_ids, words_per_range, start_of, count_of, cover};
 
 use crate::grid_node::{CELLS_OF_REGION, GridNode, NODE_FLOATS, NODE_WORDS};
-use crate::{Answer, Rule};
+use crate::{Answer, Refusal, Rule};
 use numeric::dim2::Vector;
 
 pub const MAX_REGIONS: usize = 512;
@@ -148,18 +148,16 @@ pub fn refuse(holds: bool, rule: Rule, index: usize) -> Answer
     ensures { result ≡ refuse holds rule index }
 {
     if holds {
-        return Answer::Refused(rule, index);
+        return Err(Refusal { rule, index });
     }
-    Answer::Done
+    Ok(())
 }
 
 // The first of two answers that refuses.
 pub fn first_refusal(a: Answer, b: Answer) -> Answer
     ensures { result ≡ unless a b }
 {
-    let Answer::Done = a else {
-        return a;
-    };
+    a?;
     b
 }
 
@@ -168,13 +166,17 @@ pub fn check_call(lengths: bool, limited: Answer, settings: bool, own: Answer) -
     ensures { result ≡ called lengths limited settings own }
 {
     if !lengths {
-        return Answer::Refused(Rule::Length, 0);
+        return Err(Refusal {
+            rule: Rule::Length,
+            index: 0,
+        });
     }
-    let Answer::Done = limited else {
-        return limited;
-    };
+    limited?;
     if !settings {
-        return Answer::Refused(Rule::Setting, 0);
+        return Err(Refusal {
+            rule: Rule::Setting,
+            index: 0,
+        });
     }
     own
 }
@@ -183,14 +185,15 @@ pub fn check_call(lengths: bool, limited: Answer, settings: bool, own: Answer) -
 pub fn check_flags(words: &[u32]) -> Answer
     ensures { result ≡ flags words.now }
 {
-    let mut k = 0;
-    while k < words.len() {
-        if 1 < words[k] {
-            return Answer::Refused(Rule::Code, k);
+    for (k, word) in words.iter().enumerate() {
+        if 1 < *word {
+            return Err(Refusal {
+                rule: Rule::Code,
+                index: k,
+            });
         }
-        k += 1;
     }
-    Answer::Done
+    Ok(())
 }
 
 // The first record, of `each` floats, with one that is not finite.
@@ -198,28 +201,30 @@ pub fn check_numbers(floats: &[f32], each: usize) -> Answer
     requires { 0 < each }
     ensures { result ≡ numbers each floats.now }
 {
-    let mut k = 0;
-    while k < floats.len() {
-        if !is_finite(floats[k]) {
-            return Answer::Refused(Rule::NotFinite, k / each);
+    for (k, float) in floats.iter().enumerate() {
+        if !is_finite(*float) {
+            return Err(Refusal {
+                rule: Rule::NotFinite,
+                index: k / each,
+            });
         }
-        k += 1;
     }
-    Answer::Done
+    Ok(())
 }
 
 // The first region whose id has low bits set or does not ascend.
 pub fn check_regions(ids: &[u64]) -> Answer
     ensures { result ≡ region_ids ids.now }
 {
-    let mut k = 0;
-    while k < ids.len() {
-        if is_bad_region(ids, k) {
-            return Answer::Refused(Rule::RegionIds, k);
+    for place in 0..ids.len() {
+        if is_bad_region(ids, place) {
+            return Err(Refusal {
+                rule: Rule::RegionIds,
+                index: place,
+            });
         }
-        k += 1;
     }
-    Answer::Done
+    Ok(())
 }
 
 fn is_bad_region(ids: &[u64], k: usize) -> bool
@@ -242,19 +247,26 @@ pub fn check_cover(regions: usize, ranges: &[u64], particles: u64) -> Answer
     ensures { result ≡ cover regions ranges.now particles }
 {
     let mut next = 0;
-    let mut r = 0;
-    while r < regions {
+    for r in 0..regions {
         if ranges[r * RANGE_WORDS] != next {
-            return Answer::Refused(Rule::Cover, r);
+            return Err(Refusal {
+                rule: Rule::Cover,
+                index: r,
+            });
         }
         if particles - next < ranges[r * RANGE_WORDS + 1] {
-            return Answer::Refused(Rule::Cover, r);
+            return Err(Refusal {
+                rule: Rule::Cover,
+                index: r,
+            });
         }
         next += ranges[r * RANGE_WORDS + 1];
-        r += 1;
     }
     if next != particles {
-        return Answer::Refused(Rule::Cover, regions);
+        return Err(Refusal {
+            rule: Rule::Cover,
+            index: regions,
+        });
     }
-    Answer::Done
+    Ok(())
 }

@@ -14,15 +14,18 @@ ghost use Rattle.grid.specs.Clear.{clear_check, cleared, cleared_region};
 
 use grid_node::CELLS_OF_REGION;
 
-// A call is done, or refused by a rule at an index.
-#[derive(Clone, Copy)]
-pub enum Answer {
-    Done,
-    Refused(Rule, usize),
+// A call is done, or refused.
+pub type Answer = Result<(), Refusal>;
+
+// By which rule a call is refused, and at which index.
+#[derive(Clone, Copy, Debug, PartialEq, Eq)]
+pub struct Refusal {
+    pub rule: Rule,
+    pub index: usize,
 }
 
 // The rules by which a call is refused, a case for each row of the table, in its order.
-#[derive(Clone, Copy)]
+#[derive(Clone, Copy, Debug, PartialEq, Eq)]
 pub enum Rule {
     Length,
     Limit,
@@ -37,20 +40,22 @@ pub enum Rule {
 }
 
 // The number of a rule in the table.
-pub fn number(rule: Rule) -> u32
-    ensures { result ≡ number rule }
-{
-    match rule {
-        Rule::Length => 1,
-        Rule::Limit => 2,
-        Rule::Setting => 3,
-        Rule::Code => 4,
-        Rule::NotFinite => 5,
-        Rule::RegionIds => 6,
-        Rule::Cover => 7,
-        Rule::OffGrid => 8,
-        Rule::OutOfRegion => 9,
-        Rule::Unlisted => 10,
+impl From<Rule> for u32 {
+    ghost from_gives = { λ rule n. n ≡ number rule };
+
+    fn from(rule: Rule) -> u32 {
+        match rule {
+            Rule::Length => 1,
+            Rule::Limit => 2,
+            Rule::Setting => 3,
+            Rule::Code => 4,
+            Rule::NotFinite => 5,
+            Rule::RegionIds => 6,
+            Rule::Cover => 7,
+            Rule::OffGrid => 8,
+            Rule::OutOfRegion => 9,
+            Rule::Unlisted => 10,
+        }
     }
 }
 
@@ -59,12 +64,9 @@ pub fn clear(regions: usize, ids: &[u64], nf: &mut [f32], nw: &mut [u32]) -> Ans
     ensures { (result ≡ clear_check regions ids.now (length nf.old) (length nw.old))
         × (store nf.new nw.new ≡ settle (refused result) (store nf.old nw.old) (cleared regions (store nf.old nw.old))) }
 {
-    let a = check_clear(regions, ids, nf.len(), nw.len());
-    let Answer::Done = a else {
-        return a;
-    };
+    check_clear(regions, ids, nf.len(), nw.len())?;
     clear_regions(regions, nf, nw);
-    Answer::Done
+    Ok(())
 }
 
 // What a call of `clear` is refused for.
@@ -72,12 +74,12 @@ fn check_clear(regions: usize, ids: &[u64], nf: usize, nw: usize) -> Answer
     ensures { result ≡ clear_check regions ids.now nf nw }
 {
     if !((ids.len() == regions) & inner::holds_nodes(regions, nf, nw)) {
-        return Answer::Refused(Rule::Length, 0);
+        return Err(Refusal {
+            rule: Rule::Length,
+            index: 0,
+        });
     }
-    let a = inner::check_limits(regions, 0, 0);
-    let Answer::Done = a else {
-        return a;
-    };
+    inner::check_limits(regions, 0, 0)?;
     inner::check_regions(ids)
 }
 
@@ -85,10 +87,8 @@ fn clear_regions(regions: usize, nf: &mut [f32], nw: &mut [u32])
     requires { Holds node_form (store nf.old nw.old) (regions * region_cells) }
     ensures { store nf.new nw.new ≡ cleared regions (store nf.old nw.old) }
 {
-    let mut left = regions;
-    while 0 < left {
-        clear_region((regions - left) * CELLS_OF_REGION, nf, nw);
-        left -= 1;
+    for r in 0..regions {
+        clear_region(r * CELLS_OF_REGION, nf, nw);
     }
 }
 
@@ -97,9 +97,7 @@ fn clear_region(first: usize, nf: &mut [f32], nw: &mut [u32])
     requires { ((first + region_cells) * floats_per_node ≤ length nf.old) × ((first + region_cells) * words_per_node ≤ length nw.old) }
     ensures { store nf.new nw.new ≡ cleared_region first (store nf.old nw.old) }
 {
-    let mut c = 0;
-    while c < CELLS_OF_REGION {
+    for c in 0..CELLS_OF_REGION {
         inner::write_node(nf, nw, first + c, inner::empty());
-        c += 1;
     }
 }

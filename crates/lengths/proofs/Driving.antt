@@ -1,32 +1,22 @@
 -- A host's own loop of single substeps, with the least length that `min_dt` answers, answers what the step answers: on the way nothing is refused with 3, since every time
 -- that remains is finite, and so is the least length. Assumes nothing.
-use mathlib.Core.Path.{◌≡◌, refl, sym, ap, ◌∙◌, subst}
-use mathlib.Core.Bool.{Bool, true, false, cond, ◌&&◌, not}
-use mathlib.Core.Logic.{inl, inr}
-use mathlib.Core.List.{List, [], ◌∷◌}
-use Prim.Native.Nat.{ℕ, suc, ◌<◌}
-use native.Mathlib.Nat.{pos_of_ne-zero}
-use native.Mathlib.Omega.{arith}
-use borrow.Author.Tests.{eqb-false, ne_eqb}
-use lib.Dec.{T, eqb}
-use lib.Ieee.{Float, nan, inf, fin, binary32, fits, lt, le}
+use Rattle.std.proofs.Common.{◌≡◌, refl, sym, ap, ◌∙◌, subst, Bool, true, false, cond, ◌&&◌, not, inl, inr, List, [], ◌∷◌, ℕ, suc, ◌<◌, eqb, length, Ok, arith, Float, T}
+use Rattle.std.proofs.Math.Nat.{pos_of_ne-zero}
+use Rattle.std.proofs.lemmas.Bool.{eqb-false, ne_eqb}
+use Rattle.std.specs.Float.{nan, inf, fin, binary32}
+use Rattle.std.specs.Float.Ieee.{fits, lt, le}
 use lib.Ieee.Fits.{sub-fits}
 use lib.Ieee.Bits.{is_true}
 use lib.Ieee.Positive.{positive, above, above_of_le, positive-finite}
 use lib.Ieee.Scale as Scale
-use lib.ListN.{length}
 use Rattle.numeric.specs.Bits.{◌⊖◌, none}
-use Rattle.grid.specs.Answers.{refused}
+use Rattle.grid.specs.Answers.{refused, done}
 use Rattle.grid.specs.Table.{finite, called, codes, is_flag}
-use Rattle.grid.specs.declared.Answer.TheVariants.{Done}
 use Rattle.grid.specs.declared.Rule.TheVariants.{Code}
 use Rattle.grid.proofs.Answers.{refuse_passed, not_false, not_true}
 use Rattle.grid.proofs.Lengths.{and_split}
 use Rattle.grid.proofs.Steps as Steps
-use Rattle.lengths.specs.Lengths.{min_of, allowed, raised, walk, taken, step_check, step_lengths, min_check, min_dt, substep_check, substep, driven, driven_lengths, Driven}
-use Rattle.lengths.specs.declared.Lengths.TheVariants.{Ended}
-use Rattle.lengths.specs.declared.Least.TheVariants.{Length as LeastLength}
-use Rattle.lengths.specs.declared.Substep.TheVariants.{Taken, Refused as SubstepRefused}
+use Rattle.lengths.specs.Lengths.{refused_by, ended, took, min_of, allowed, raised, walk, taken, step_check, step_lengths, min_check, min_dt, substep_check, substep, driven, driven_lengths, Driven}
 use Rattle.lengths.proofs.Finite.{above_is, under, sub_finite, div_finite}
 use Rattle.lengths.proofs.Walking.{Over, Open, look, over_walk, over_taken}
 
@@ -84,18 +74,18 @@ next_finite r min max p F P a = let w = within r min max p (positive-finite r P)
 -- ---- a substep on the way
 
 module _ (r min max p : Float) (R : T (Scale.finite r)) (M : T (Scale.finite min)) (X : T (Scale.finite max)) where
-  substep_taken : allowed r max p ≡ true → substep r min max p ≡ Taken (raised r min p) (r ⊖ raised r min p)
+  substep_taken : allowed r max p ≡ true → substep r min max p ≡ took (raised r min p) (r ⊖ raised r min p)
   unfolding substep substep_check
   substep_taken a = rw (finite_holds r R, finite_holds min M, finite_holds max X, a)
 
-  substep_broken : allowed r max p ≡ false → substep r min max p ≡ SubstepRefused Code 0
+  substep_broken : allowed r max p ≡ false → substep r min max p ≡ refused_by Code 0
   unfolding substep substep_check
   substep_broken a = rw (finite_holds r R, finite_holds min M, finite_holds max X, a)
 
 -- ---- the loop
 
 module _ (one : Bool) (min max : Float) where
-  over_driven : (n : ℕ) (r : Float) (o : Over one n r) (ps : List Float) → driven one min max n r ps ≡ Ended o.end n r
+  over_driven : (n : ℕ) (r : Float) (o : Over one n r) (ps : List Float) → driven one min max n r ps ≡ ended o.end n r
   unfolding driven
   over_driven n r o [] = o.ended _
   over_driven n r o (p ∷ ps) = o.ended _
@@ -137,19 +127,19 @@ passed : (total max : Float) (substeps stop count len : ℕ) → refused (step_c
 unfolding step_check called
 passed total max substeps stop count len e =
     let some = not (eqb substeps 0) in
-    let p = Steps.passed (eqb len count && true) Done (finite total && (finite max && true)) (codes (some ∷ is_flag stop ∷ [])) e in
+    let p = Steps.passed (eqb len count && true) done (finite total && (finite max && true)) (codes (some ∷ is_flag stop ∷ [])) e in
     let s = and_split (finite total) (finite max && true) p.settings in
     let o = not_false (some && (is_flag stop && true)) (refuse_passed (not (some && (is_flag stop && true))) Code 0 p.own) in
     let ne = eqb-false substeps 0 (not_true (eqb substeps 0) (and_split some (is_flag stop && true) o).0) in
     record { total_finite = s.0; max_finite = (and_split (finite max) true s.1).0; some = pos_of_ne-zero ne }
 
-pub same_least : (total max : Float) (substeps stop count len : ℕ) → step_check total max substeps stop count len ≡ Done → min_dt total substeps ≡ LeastLength (min_of total substeps)
+pub same_least : (total max : Float) (substeps stop count len : ℕ) → step_check total max substeps stop count len ≡ done → min_dt total substeps ≡ Ok (min_of total substeps)
 unfolding min_dt min_check
 same_least total max substeps stop count len e =
     let c = passed total max substeps stop count len (ap refused e) in
     rw (c.total_finite, ne_eqb substeps 0 (λ z. omega (arith, c.some)))
 
-pub drives : (total max : Float) (substeps stop count : ℕ) (proposals : List Float) → T (fits binary32 total) → step_check total max substeps stop count (length proposals) ≡ Done
+pub drives : (total max : Float) (substeps stop count : ℕ) (proposals : List Float) → T (fits binary32 total) → step_check total max substeps stop count (length proposals) ≡ done
     → Driven total max substeps stop count proposals
 unfolding step_lengths
 drives total max substeps stop count proposals F e =

@@ -1,21 +1,11 @@
 -- How a step ends: the count is that of its subtractions, the end is the first that holds, and nothing behind it is looked at. Assumes nothing.
-use mathlib.Core.Path.{◌≡◌, refl, sym, ap, ◌∙◌, subst}
-use mathlib.Core.Bool.{Bool, true, false, not}
-use mathlib.Core.Logic.{inl, inr}
-use mathlib.Core.List.{List, [], ◌∷◌, ◌++◌}
-use Prim.Native.Nat.{ℕ, suc, ◌+◌}
-use native.Mathlib.Omega.{arith}
-use lib.Dec.{eqb}
-use lib.Ieee.{Float}
-use lib.ListN.{length, take}
+use Rattle.std.proofs.Common.{◌≡◌, refl, sym, ap, ◌∙◌, subst, Bool, true, false, not, inl, inr, List, [], ◌∷◌, ◌++◌, ℕ, suc, ◌+◌, eqb, length, take, Ok, Err, arith, Float}
+use Rattle.grid.specs.Answers.{Answer}
 use Rattle.numeric.specs.Bits.{◌⊖◌}
-use Rattle.grid.specs.declared.Answer.{Answer}
-use Rattle.grid.specs.declared.Answer.TheVariants.{Done, Refused}
-use Rattle.lengths.specs.Lengths.{min_of, allowed, raised, ends, walk, step_check, step_or, step_lengths, taken, less, Ending}
+use Rattle.lengths.specs.Lengths.{OrRefused, ended, min_of, allowed, raised, ends, walk, step_check, unless_refused, step_lengths, taken, less, Ending}
 use Rattle.lengths.specs.declared.End.{End}
 use Rattle.lengths.specs.declared.End.TheVariants.{NoProposal}
 use Rattle.lengths.specs.declared.Lengths.{Lengths}
-use Rattle.lengths.specs.declared.Lengths.TheVariants.{Ended, Refused as StepRefused}
 use Rattle.lengths.proofs.Walking.{Over, Open, look, over_walk, over_taken, open_ends, open_none, open_broken, open_walk, open_taken}
 
 module _ (one : Bool) (min max : Float) where
@@ -26,9 +16,9 @@ module _ (one : Bool) (min max : Float) where
   record From (k : ℕ) (r : Float) (ps : List Float) (e : End) (n : ℕ) (s : Float) : Type 0 where
     pub counted : n ≡ k + length (taken one min max k r ps)
     pub subtracted : s ≡ less r (taken one min max k r ps)
-    pub first_end : ends one n s (Ended NoProposal n s) ≡ Ended e n s
+    pub first_end : ends one n s (ended NoProposal n s) ≡ ended e n s
     pub spent : e ≡ NoProposal → n ≡ k + length ps
-    pub unlooked : (e ≡ NoProposal → ⊥) → (others : List Float) → walk one min max k r (take (length (taken one min max k r ps)) ps ++ others) ≡ Ended e n s
+    pub unlooked : (e ≡ NoProposal → ⊥) → (others : List Float) → walk one min max k r (take (length (taken one min max k r ps)) ps ++ others) ≡ ended e n s
 
   from_over : (k : ℕ) (r : Float) (o : Over one k r) (ps : List Float) → From k r ps o.end k r
   unfolding less
@@ -37,7 +27,7 @@ module _ (one : Bool) (min max : Float) where
       record {
         counted = rw t (omega arith);
         subtracted = rw t;
-        first_end = o.ended (Ended NoProposal k r);
+        first_end = o.ended (ended NoProposal k r);
         spent = λ e. absurd (o.found e);
         unlooked = λ ne others. rw t (over_walk one min max k r o others);
       }
@@ -48,7 +38,7 @@ module _ (one : Bool) (min max : Float) where
       record {
         counted = omega arith;
         subtracted = refl;
-        first_end = open_ends one min max k r o (Ended NoProposal k r);
+        first_end = open_ends one min max k r o (ended NoProposal k r);
         spent = λ e. omega arith;
         unlooked = λ ne others. absurd (ne refl);
       }
@@ -67,9 +57,9 @@ module _ (one : Bool) (min max : Float) where
       }
 
   -- of an answer that is no refusal
-  abbrev Of : ℕ → Float → List Float → Lengths → Type 0
-  Of k r ps (Ended e n s) = From k r ps e n s
-  Of k r ps (StepRefused rule i) = Unit {0}
+  abbrev Of : ℕ → Float → List Float → OrRefused Lengths → Type 0
+  Of k r ps (Ok l) = From k r ps l.end l.count l.remaining
+  Of k r ps (Err e) = Unit {0}
 
   from : (k : ℕ) (r : Float) (ps : List Float) → Of k r ps (walk one min max k r ps)
   from k r [] = elim (look one k r) [
@@ -81,17 +71,17 @@ module _ (one : Bool) (min max : Float) where
     | inr o ↦ go o (allowed r max p) refl (from (suc k) (next r p) ps)
   ]
     where
-      step : Open one k r → allowed r max p ≡ true → (w : Lengths) → Of (suc k) (next r p) ps w → Of k r (p ∷ ps) w
-      step o a (Ended e n s) f = from_next k r o p ps a e n s f
-      step o a (StepRefused rule i) f = tt
+      step : Open one k r → allowed r max p ≡ true → (w : OrRefused Lengths) → Of (suc k) (next r p) ps w → Of k r (p ∷ ps) w
+      step o a (Ok l) f = from_next k r o p ps a l.end l.count l.remaining f
+      step o a (Err e) f = tt
 
       go : Open one k r → (b : Bool) → allowed r max p ≡ b → Of (suc k) (next r p) ps (walk one min max (suc k) (next r p) ps) → Of k r (p ∷ ps) (walk one min max k r (p ∷ ps))
       go o true a f = subst (Of k r (p ∷ ps)) (sym (open_walk one min max k r o p ps a)) (step o a (walk one min max (suc k) (next r p) ps) f)
       go o false a f = subst (Of k r (p ∷ ps)) (sym (open_broken one min max k r o p ps a)) tt
 
-ended : (one : Bool) (min max total : Float) (proposals : List Float) (e : End) (n : ℕ) (remaining : Float)
-    → walk one min max 0 total proposals ≡ Ended e n remaining → Ending one min max total proposals e n remaining
-ended one min max total proposals e n remaining h =
+ending_of : (one : Bool) (min max total : Float) (proposals : List Float) (e : End) (n : ℕ) (remaining : Float)
+    → walk one min max 0 total proposals ≡ ended e n remaining → Ending one min max total proposals e n remaining
+ending_of one min max total proposals e n remaining h =
     let f : From one min max 0 total proposals e n remaining = subst (Of one min max 0 total proposals) h (from one min max 0 total proposals) in
     let c : n ≡ length (taken one min max 0 total proposals) = omega (arith, f.counted) in
     record {
@@ -103,13 +93,13 @@ ended one min max total proposals e n remaining h =
     }
 
 -- a step that ends is not refused
-accepted : (a : Answer) (w : Lengths) (e : End) (n : ℕ) (remaining : Float) → step_or a w ≡ Ended e n remaining → w ≡ Ended e n remaining
-accepted Done w e n remaining h = h
-accepted (Refused rule k) w e n remaining h = let z : ◌≡◌ {A = ℕ} 0 1 = cc in absurd (omega arith)
+accepted : (a : Answer) (w : OrRefused Lengths) (e : End) (n : ℕ) (remaining : Float) → unless_refused a w ≡ ended e n remaining → w ≡ ended e n remaining
+accepted (Ok u) w e n remaining h = h
+accepted (Err x) w e n remaining h = let z : ◌≡◌ {A = ℕ} 0 1 = cc in absurd (omega arith)
 
 pub ending : (total max : Float) (substeps stop count : ℕ) (proposals : List Float) (e : End) (n : ℕ) (remaining : Float)
-    → step_lengths total max substeps stop count proposals ≡ Ended e n remaining → Ending (not (eqb stop 0)) (min_of total substeps) max total proposals e n remaining
+    → step_lengths total max substeps stop count proposals ≡ ended e n remaining → Ending (not (eqb stop 0)) (min_of total substeps) max total proposals e n remaining
 unfolding step_lengths
 ending total max substeps stop count proposals e n remaining h =
     let walked = walk (not (eqb stop 0)) (min_of total substeps) max 0 total proposals in
-    ended (not (eqb stop 0)) (min_of total substeps) max total proposals e n remaining (accepted (step_check total max substeps stop count (length proposals)) walked e n remaining h)
+    ending_of (not (eqb stop 0)) (min_of total substeps) max total proposals e n remaining (accepted (step_check total max substeps stop count (length proposals)) walked e n remaining h)

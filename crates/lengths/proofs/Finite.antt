@@ -1,15 +1,8 @@
 -- A time above 0 stays finite when a length of at most that time is subtracted, and when it is divided by a number from 1 on: each rounds to no more than the time. Assumes
 -- nothing.
-use mathlib.Core.Path.{◌≡◌, refl, sym, ap, ◌∙◌, subst}
-use mathlib.Core.Bool.{Bool, true, false, cond}
-use mathlib.Core.Logic.{◌⊎◌, inl, inr}
-use Prim.Native.Nat.{ℕ, zero, suc, ◌+◌, ◌-◌, ◌*◌, ◌^◌, ◌<◌, ◌≤◌}
-use native.Mathlib.Nat.{zero-lt-suc, le_trans, le_of_eq, zero-mul, mul-one, mul_comm, mul_assoc, mul-pos, mul-le-mul_right, mul-le-mul_left}
-use native.Mathlib.Omega.{arith}
-use borrow.Author.Tests.{lt-ltb, le-ltb, ne_eqb}
+use Rattle.std.proofs.Common.{◌≡◌, refl, sym, ap, ◌∙◌, subst, Bool, true, false, cond, ◌⊎◌, inl, inr, ℕ, zero, suc, ◌+◌, ◌-◌, ◌*◌, ◌^◌, ◌<◌, ◌≤◌, zero-lt-suc, le_trans, le_of_eq, zero-mul, mul-one, mul_comm, mul_assoc, mul-pos, mul-le-mul_right, mul-le-mul_left, arith, lt-ltb, le-ltb, ne_eqb, T, ltb, ltb→lt, Float}
 use lib.IntN.{ℤ, pos}
-use lib.Dec.{T, ltb, ltb→lt}
-use lib.Ieee.{Float, nan, inf, fin, binary32, up, down, round, units, odd, low, emax, prec, fits, lt, le, sub, div, of_int, of_bits}
+use lib.Ieee.{nan, inf, fin, binary32, up, down, round, units, odd, low, emax, prec, fits, lt, le, sub, div, of_int, of_bits}
 use lib.Ieee.Fits.{up_pos, down_pos, round_is}
 use lib.Ieee.Exact.{HasValue, round_exact, odd_sign}
 use lib.Ieee.Order.{round_mono}

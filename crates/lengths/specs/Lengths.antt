@@ -1,24 +1,40 @@
 -- Document 01, "Lengths": the substeps of a step, by the host's proposals; and what a call is refused for. Definitions, and what is proved of them.
 -- Assumes nothing.
-use Rattle.std.specs.Prelude.{◌≡◌, Bool, cond, ◌&&◌, ◌||◌, not, List, [], ◌∷◌, ◌++◌, ℕ, suc, T, eqb, Float, length, take}
+use Rattle.std.specs.Prelude.{◌≡◌, Bool, cond, ◌&&◌, ◌||◌, not, List, [], ◌∷◌, ◌++◌, ℕ, suc, T, eqb, Float, length, take, Result, Ok, Err}
 use Rattle.std.specs.Float.{binary32}
 use Rattle.std.specs.Float.Ieee.{fits, lt, le}
 use Rattle.numeric.specs.Bits.{◌⊖◌, ◌⊘◌, none}
 use Rattle.numeric.specs.Round.{nearest_to}
-use Rattle.grid.specs.Answers.{number, first}
+use Rattle.grid.specs.Answers.{number, first, Answer, done}
 use Rattle.grid.specs.Table.{lengths, finite, settings, codes, is_flag}
-use Rattle.grid.specs.declared.Answer.{Answer}
-use Rattle.grid.specs.declared.Answer.TheVariants.{Done, Refused}
+use Rattle.grid.specs.declared.Refusal.{Refusal}
 use Rattle.grid.specs.declared.Rule.{Rule}
 use Rattle.grid.specs.declared.Rule.TheVariants.{Code}
 use Rattle.lengths.specs.declared.End.{End}
 use Rattle.lengths.specs.declared.End.TheVariants.{Finished, OneSubstep, NoProposal}
 use Rattle.lengths.specs.declared.Lengths.{Lengths}
-use Rattle.lengths.specs.declared.Lengths.TheVariants.{Ended, Refused as StepRefused}
-use Rattle.lengths.specs.declared.Least.{Least}
-use Rattle.lengths.specs.declared.Least.TheVariants.{Length as LeastLength, Refused as LeastRefused}
 use Rattle.lengths.specs.declared.Substep.{Substep}
-use Rattle.lengths.specs.declared.Substep.TheVariants.{Taken, Refused as SubstepRefused}
+
+-- ---- what a call answers: what it was asked for, or a rule and an index by which it is refused
+
+abbrev pub OrRefused : Type 0 → Type 0
+OrRefused A = Result A Refusal
+
+abbrev pub refused_by : {A : Type 0} → Rule → ℕ → OrRefused A
+refused_by rule k = Err (record { rule = rule; index = k })
+
+-- refused as its check says, or answered
+abbrev pub unless_refused : {A : Type 0} → Answer → OrRefused A → OrRefused A
+unless_refused (Ok u) answer = answer
+unless_refused (Err e) answer = Err e
+
+-- a step that ended by e after n substeps, with a time that remains
+abbrev pub ended : End → ℕ → Float → OrRefused Lengths
+ended e n remaining = Ok (record { end = e; count = n; remaining = remaining })
+
+-- a substep of this length, and the time that remains behind it
+abbrev pub took : Float → Float → OrRefused Substep
+took dt remaining = Ok (record { length = dt; remaining = remaining })
 
 -- ---- one substep
 
@@ -45,14 +61,14 @@ abbrev pub one_done : Bool → ℕ → Bool
 one_done one n = one && not (eqb n 0)
 
 -- The ends, looked at before each substep, after n of them: finished; one substep; or on to the next proposal, or that there is none.
-abbrev pub ends : Bool → ℕ → Float → Lengths → Lengths
-ends one n remaining on = cond (finished remaining) (Ended Finished n remaining) (cond (one_done one n) (Ended OneSubstep n remaining) on)
+abbrev pub ends : Bool → ℕ → Float → OrRefused Lengths → OrRefused Lengths
+ends one n remaining on = cond (finished remaining) (ended Finished n remaining) (cond (one_done one n) (ended OneSubstep n remaining) on)
 
 module _ (one : Bool) (min max : Float) where
   -- from n substeps and what remains on, with the proposals that are left: take the next, raise it, subtract
-  unfoldable pub walk : ℕ → Float → List Float → Lengths
-  walk n remaining [] = ends one n remaining (Ended NoProposal n remaining)
-  walk n remaining (p ∷ ps) = ends one n remaining (cond (allowed remaining max p) (walk (suc n) (remaining ⊖ raised remaining min p) ps) (StepRefused Code n))
+  unfoldable pub walk : ℕ → Float → List Float → OrRefused Lengths
+  walk n remaining [] = ends one n remaining (ended NoProposal n remaining)
+  walk n remaining (p ∷ ps) = ends one n remaining (cond (allowed remaining max p) (walk (suc n) (remaining ⊖ raised remaining min p) ps) (refused_by Code n))
 
 -- ---- what a call is refused for, and what it answers
 
@@ -66,14 +82,9 @@ step_check total max substeps stop count len =
     ∷ []
     )
 
--- refused, or what the proposals lead to
-abbrev pub step_or : Answer → Lengths → Lengths
-step_or Done answer = answer
-step_or (Refused rule k) answer = StepRefused rule k
-
-unfoldable pub step_lengths : Float → Float → ℕ → ℕ → ℕ → List Float → Lengths
+unfoldable pub step_lengths : Float → Float → ℕ → ℕ → ℕ → List Float → OrRefused Lengths
 step_lengths total max substeps stop count proposals =
-    step_or (step_check total max substeps stop count (length proposals)) (walk (not (eqb stop 0)) (min_of total substeps) max 0 total proposals)
+    unless_refused (step_check total max substeps stop count (length proposals)) (walk (not (eqb stop 0)) (min_of total substeps) max 0 total proposals)
 
 -- of the least length: 3; max_num_substeps 0 in 4
 unfoldable pub min_check : Float → ℕ → Answer
@@ -84,12 +95,8 @@ min_check total substeps =
     ∷ []
     )
 
-abbrev pub min_or : Answer → Least → Least
-min_or Done answer = answer
-min_or (Refused rule k) answer = LeastRefused rule k
-
-unfoldable pub min_dt : Float → ℕ → Least
-min_dt total substeps = min_or (min_check total substeps) (LeastLength (min_of total substeps))
+unfoldable pub min_dt : Float → ℕ → OrRefused Float
+min_dt total substeps = unless_refused (min_check total substeps) (Ok (min_of total substeps))
 
 -- of one substep: 3; a proposal that breaks its rule in 4
 unfoldable pub substep_check : Float → Float → Float → Float → Answer
@@ -100,15 +107,11 @@ substep_check remaining min max proposal =
     ∷ []
     )
 
-abbrev pub substep_or : Answer → Substep → Substep
-substep_or Done answer = answer
-substep_or (Refused rule k) answer = SubstepRefused rule k
-
 -- its length, and what remains
-unfoldable pub substep : Float → Float → Float → Float → Substep
+unfoldable pub substep : Float → Float → Float → Float → OrRefused Substep
 substep remaining min max proposal =
     let dt = raised remaining min proposal in
-    substep_or (substep_check remaining min max proposal) (Taken dt (remaining ⊖ dt))
+    unless_refused (substep_check remaining min max proposal) (took dt (remaining ⊖ dt))
 
 -- ---- number and values of each case of an answer: of a refused one the number and the index, and all else 0
 
@@ -117,53 +120,53 @@ end_number Finished = 0
 end_number OneSubstep = 1
 end_number NoProposal = 2
 
-abbrev pub step_number : Lengths → ℕ
-step_number (Ended e n remaining) = 0
-step_number (StepRefused rule k) = number rule
+abbrev pub step_number : OrRefused Lengths → ℕ
+step_number (Ok l) = 0
+step_number (Err e) = number e.rule
 
-abbrev pub step_index : Lengths → ℕ
-step_index (Ended e n remaining) = 0
-step_index (StepRefused rule k) = k
+abbrev pub step_index : OrRefused Lengths → ℕ
+step_index (Ok l) = 0
+step_index (Err e) = e.index
 
-abbrev pub step_count : Lengths → ℕ
-step_count (Ended e n remaining) = n
-step_count (StepRefused rule k) = 0
+abbrev pub step_count : OrRefused Lengths → ℕ
+step_count (Ok l) = l.count
+step_count (Err e) = 0
 
-abbrev pub step_remaining : Lengths → Float
-step_remaining (Ended e n remaining) = remaining
-step_remaining (StepRefused rule k) = none
+abbrev pub step_remaining : OrRefused Lengths → Float
+step_remaining (Ok l) = l.remaining
+step_remaining (Err e) = none
 
-abbrev pub step_end : Lengths → ℕ
-step_end (Ended e n remaining) = end_number e
-step_end (StepRefused rule k) = 0
+abbrev pub step_end : OrRefused Lengths → ℕ
+step_end (Ok l) = end_number l.end
+step_end (Err e) = 0
 
-abbrev pub min_number : Least → ℕ
-min_number (LeastLength dt) = 0
-min_number (LeastRefused rule k) = number rule
+abbrev pub min_number : OrRefused Float → ℕ
+min_number (Ok dt) = 0
+min_number (Err e) = number e.rule
 
-abbrev pub min_index : Least → ℕ
-min_index (LeastLength dt) = 0
-min_index (LeastRefused rule k) = k
+abbrev pub min_index : OrRefused Float → ℕ
+min_index (Ok dt) = 0
+min_index (Err e) = e.index
 
-abbrev pub min_length : Least → Float
-min_length (LeastLength dt) = dt
-min_length (LeastRefused rule k) = none
+abbrev pub min_length : OrRefused Float → Float
+min_length (Ok dt) = dt
+min_length (Err e) = none
 
-abbrev pub substep_number : Substep → ℕ
-substep_number (Taken dt remaining) = 0
-substep_number (SubstepRefused rule k) = number rule
+abbrev pub substep_number : OrRefused Substep → ℕ
+substep_number (Ok s) = 0
+substep_number (Err e) = number e.rule
 
-abbrev pub substep_index : Substep → ℕ
-substep_index (Taken dt remaining) = 0
-substep_index (SubstepRefused rule k) = k
+abbrev pub substep_index : OrRefused Substep → ℕ
+substep_index (Ok s) = 0
+substep_index (Err e) = e.index
 
-abbrev pub substep_length : Substep → Float
-substep_length (Taken dt remaining) = dt
-substep_length (SubstepRefused rule k) = none
+abbrev pub substep_length : OrRefused Substep → Float
+substep_length (Ok s) = s.length
+substep_length (Err e) = none
 
-abbrev pub substep_remaining : Substep → Float
-substep_remaining (Taken dt remaining) = remaining
-substep_remaining (SubstepRefused rule k) = none
+abbrev pub substep_remaining : OrRefused Substep → Float
+substep_remaining (Ok s) = s.remaining
+substep_remaining (Err e) = none
 
 -- ---- what is proved of a step
 
@@ -190,23 +193,23 @@ pub record Ending (one : Bool) (min max total : Float) (proposals : List Float) 
   pub counted : n ≡ length (taken one min max 0 total proposals)
   pub subtracted : remaining ≡ less total (taken one min max 0 total proposals)
   -- It ends by the first end that holds there; for want of a proposal, where all are taken.
-  pub first_end : ends one n remaining (Ended NoProposal n remaining) ≡ Ended e n remaining
+  pub first_end : ends one n remaining (ended NoProposal n remaining) ≡ ended e n remaining
   pub spent : e ≡ NoProposal → n ≡ length proposals
   -- Proposals past the end are not looked at.
-  pub unlooked : (e ≡ NoProposal → ⊥) → (others : List Float) → walk one min max 0 total (take n proposals ++ others) ≡ Ended e n remaining
+  pub unlooked : (e ≡ NoProposal → ⊥) → (others : List Float) → walk one min max 0 total (take n proposals ++ others) ≡ ended e n remaining
 
 -- ---- and of a host's own loop
 
 -- on with a substep that is taken, or not
-abbrev pub after : {A : Type 0} → Substep → (Float → Float → A) → (Rule → A) → A
-after (Taken dt remaining) on off = on dt remaining
-after (SubstepRefused rule k) on off = off rule
+abbrev pub after : {A : Type 0} → OrRefused Substep → (Float → Float → A) → (Rule → A) → A
+after (Ok s) on off = on s.length s.remaining
+after (Err e) on off = off e.rule
 
 module _ (one : Bool) (min max : Float) where
   -- It looks at the ends as a step does, hands each proposal to `substep`, and goes on with what that answers; or it is refused, with the proposal's index.
-  unfoldable pub driven : ℕ → Float → List Float → Lengths
-  driven n remaining [] = ends one n remaining (Ended NoProposal n remaining)
-  driven n remaining (p ∷ ps) = ends one n remaining (after (substep remaining min max p) (λ dt left. driven (suc n) left ps) (λ rule. StepRefused rule n))
+  unfoldable pub driven : ℕ → Float → List Float → OrRefused Lengths
+  driven n remaining [] = ends one n remaining (ended NoProposal n remaining)
+  driven n remaining (p ∷ ps) = ends one n remaining (after (substep remaining min max p) (λ dt left. driven (suc n) left ps) (λ rule. refused_by rule n))
 
   -- the lengths that it is answered
   unfoldable pub driven_lengths : ℕ → Float → List Float → List Float
@@ -221,9 +224,9 @@ pub record Driven (total max : Float) (substeps stop count : ℕ) (proposals : L
 pub record Laws : Type 0 where
   -- of every step that ends
   pub ending : (total max : Float) (substeps stop count : ℕ) (proposals : List Float) (e : End) (n : ℕ) (remaining : Float)
-      → step_lengths total max substeps stop count proposals ≡ Ended e n remaining → Ending (not (eqb stop 0)) (min_of total substeps) max total proposals e n remaining
+      → step_lengths total max substeps stop count proposals ≡ ended e n remaining → Ending (not (eqb stop 0)) (min_of total substeps) max total proposals e n remaining
   -- of every step that is not refused ahead of its proposals: `min_dt` answers the length that the step raises to
-  pub same_least : (total max : Float) (substeps stop count len : ℕ) → step_check total max substeps stop count len ≡ Done → min_dt total substeps ≡ LeastLength (min_of total substeps)
+  pub same_least : (total max : Float) (substeps stop count len : ℕ) → step_check total max substeps stop count len ≡ done → min_dt total substeps ≡ Ok (min_of total substeps)
   -- and a host's loop with it goes as the step does; its total is an f32
   pub driving : (total max : Float) (substeps stop count : ℕ) (proposals : List Float) → T (fits binary32 total)
-      → step_check total max substeps stop count (length proposals) ≡ Done → Driven total max substeps stop count proposals
+      → step_check total max substeps stop count (length proposals) ≡ done → Driven total max substeps stop count proposals

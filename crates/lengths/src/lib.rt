@@ -3,33 +3,41 @@
 
 pub mod mls_solver;
 
-use grid::Rule;
+ghost use Rattle.std.specs.Prelude.{◌≡◌};
+ghost use Rattle.lengths.specs.Lengths.{end_number};
 
 // How a step ended: its time is used up, one substep was asked for and is done, or no proposal is left.
-#[derive(Clone, Copy)]
+#[derive(Clone, Copy, Debug, PartialEq, Eq)]
 pub enum End {
     Finished,
     OneSubstep,
     NoProposal,
 }
 
-// What a step answers: how it ended, after how many substeps and with what time remaining; or it is refused by a rule at an index.
-#[derive(Clone, Copy)]
-pub enum Lengths {
-    Ended(End, usize, f32),
-    Refused(Rule, usize),
+impl From<End> for u32 {
+    ghost from_gives = { λ e n. n ≡ end_number e };
+
+    // The number of an end over the boundary.
+    fn from(end: End) -> u32 {
+        match end {
+            End::Finished => 0,
+            End::OneSubstep => 1,
+            End::NoProposal => 2,
+        }
+    }
 }
 
-// What is answered of the least length: how long it is; or it is refused.
-#[derive(Clone, Copy)]
-pub enum Least {
-    Length(f32),
-    Refused(Rule, usize),
+// How a step ended, after how many substeps and with what time remaining.
+#[derive(Clone, Copy, Debug, PartialEq)]
+pub struct Lengths {
+    pub end: End,
+    pub count: usize,
+    pub remaining: f32,
 }
 
-// What one substep answers: its length and the time that remains behind it; or it is refused.
-#[derive(Clone, Copy)]
-pub enum Substep {
-    Taken(f32, f32),
-    Refused(Rule, usize),
+// One substep's length and the time that remains behind it.
+#[derive(Clone, Copy, Debug, PartialEq)]
+pub struct Substep {
+    pub length: f32,
+    pub remaining: f32,
 }

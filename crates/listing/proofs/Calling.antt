@@ -1,24 +1,17 @@
 -- What clears, scatters and prints, of what its calls ensure. Assumes nothing.
-use mathlib.Core.Path.{◌≡◌, refl, sym, ap, ap₂, ◌∙◌}
-use mathlib.Core.Bool.{true, false, true≢false}
-use mathlib.Core.List.{List, [], ◌∷◌}
-use Prim.Native.Nat.{ℕ, zero, suc, ◌+◌, ◌*◌, ◌^◌, ◌≤◌, ◌<◌}
-use native.Mathlib.Omega.{arith}
-use lib.Ieee.{Float}
-use lib.ListN.{length, take, drop, replicate, length-replicate}
-use lib.Seq.{take-append_seam}
+use Rattle.std.proofs.Common.{Ok, Err, ◌≡◌, refl, sym, ap, ap₂, ◌∙◌, true, false, true≢false, List, [], ◌∷◌, ℕ, zero, suc, ◌+◌, ◌*◌, ◌^◌, ◌≤◌, ◌<◌, arith, length, take, drop, replicate, Float}
+use Rattle.std.proofs.Math.ListN.{length-replicate}
+use Rattle.std.proofs.Math.Seq.{take-append_seam}
 use Rattle.numeric.specs.Axes.{axes}
 use Rattle.numeric.specs.Bits.{none}
 use Rattle.laws.specs.Store.{Store, store}
 use Rattle.laws.specs.Refusals.{settle}
 use Rattle.fields.specs.Write.{put_at}
 use Rattle.fields.proofs.Writing.{fits, length_put}
-use Rattle.grid.specs.Answers.{refused, number}
+use Rattle.grid.specs.Answers.{refused, number, Answer, done, refusal}
 use Rattle.grid.specs.Nodes.{region_cells, floats_per_node, words_per_node}
 use Rattle.grid.specs.Table.{words_per_range}
 use Rattle.grid.specs.Clear.{clear_check, cleared}
-use Rattle.grid.specs.declared.Answer.{Answer}
-use Rattle.grid.specs.declared.Answer.TheVariants.{Done, Refused}
 use Rattle.grid.specs.declared.Rule.{Rule}
 use Rattle.particles.specs.Particles.{floats_per_particle, words_per_particle}
 use Rattle.scatter.specs.Scatter.{scatter_check, scattered}
@@ -38,9 +31,6 @@ take_replicate zero m a h = refl
 take_replicate (suc n) zero a h = absurd (omega arith)
 take_replicate {A} (suc n) (suc m) a h = ap (λ (l : List A). a ∷ l) (take_replicate n m a (omega arith))
 
-pub front_long : {A : Type 0} (n m : ℕ) (a : A) → n ≤ m → n ≡ length (take n (replicate m a))
-front_long n m a h = sym (ap length (take_replicate n m a h) ∙ length-replicate n a)
-
 pub front_blank : (regions m k : ℕ) → regions * (region_cells * floats_per_node) ≤ m → regions * (region_cells * words_per_node) ≤ k
     → store (take (regions * (region_cells * floats_per_node)) (replicate m none)) (take (regions * (region_cells * words_per_node)) (replicate k 0)) ≡ blank regions
 front_blank regions m k h l = ap₂ store (take_replicate _ m none h) (take_replicate _ k 0 l)
@@ -51,16 +41,16 @@ blank_long regions s e = (ap (λ (x : Store). length x.floats) e ∙ length-repl
 -- ---- a call
 
 -- what is not refused is done
-not_refused : (a : Answer) → refused a ≡ false → a ≡ Done
-not_refused Done e = refl
-not_refused (Refused r k) e = absurd (true≢false e)
+not_refused : (a : Answer) → refused a ≡ false → a ≡ done
+not_refused (Ok u) h = refl
+not_refused (Err e) h = absurd (true≢false h)
 
 module _ (w : Settings) (regions : ℕ) (ids ranges : List ℕ) (count : ℕ) (particles : Store) where
   -- a clear of blank nodes and a scatter by their contracts
   pub clear_scatter : (s t u : Store) (a b : Answer) → s ≡ blank regions
       → a ≡ clear_check regions ids (length s.floats) (length s.words) → t ≡ settle (refused a) s (cleared regions s)
       → length t.floats ≡ length s.floats → length t.words ≡ length s.words
-      → b ≡ scatter_check Done w.cell_width w.dt (axes w.gravity) regions ids ranges count particles (length t.floats) (length t.words)
+      → b ≡ scatter_check done w.cell_width w.dt (axes w.gravity) regions ids ranges count particles (length t.floats) (length t.words)
       → u ≡ settle (refused b) t (scattered w.cell_width w.dt (axes w.gravity) ids ranges particles t)
       → (b ≡ bench_check w regions ids ranges count particles) × (refused b ≡ false → u ≡ bench_nodes w regions ids ranges count particles)
   unfolding bench_check bench_nodes
@@ -69,20 +59,20 @@ module _ (w : Settings) (regions : ℕ) (ids ranges : List ℕ) (count : ℕ) (p
       let is : b ≡ bench_check w regions ids ranges count particles = checks ∙ rw (floats, words, f.0, f.1) in (
         is,
         λ r.
-            let done = clear_done w.cell_width w.dt (axes w.gravity) regions ids ranges count particles _ _ (sym is ∙ not_refused b r) in
-            let empty : t ≡ cleared regions (blank regions) = clears ∙ rw (asks, f.0, f.1, done, start) in
+            let d = clear_done w.cell_width w.dt (axes w.gravity) regions ids ranges count particles _ _ (sym is ∙ not_refused b r) in
+            let empty : t ≡ cleared regions (blank regions) = clears ∙ rw (asks, f.0, f.1, d, start) in
             scatters ∙ rw (r, empty),
       )
 
   -- what is printed, refused or not
-  pub no_called : (rule : Rule) (index : ℕ) → bench_check w regions ids ranges count particles ≡ Refused rule index → no_text (number rule) index ≡ called w regions ids ranges count particles
+  pub no_called : (rule : Rule) (index : ℕ) → bench_check w regions ids ranges count particles ≡ refusal rule index → no_text (number rule) index ≡ called w regions ids ranges count particles
   unfolding called
   no_called rule index e = rw e
 
-  pub listed_called : {a : Answer} {t : Store} → length ids ≡ regions → a ≡ bench_check w regions ids ranges count particles → (refused a ≡ false → t ≡ bench_nodes w regions ids ranges count particles) → a ≡ Done
+  pub listed_called : {a : Answer} {t : Store} → length ids ≡ regions → a ≡ bench_check w regions ids ranges count particles → (refused a ≡ false → t ≡ bench_nodes w regions ids ranges count particles) → a ≡ done
       → listed ids (length ids * region_cells) t ≡ called w regions ids ranges count particles
   unfolding called
-  listed_called n is nodes done = let e : bench_check w regions ids ranges count particles ≡ Done = sym is ∙ done in rw (n, nodes (ap refused done), e)
+  listed_called n is nodes d = let e : bench_check w regions ids ranges count particles ≡ done = sym is ∙ d in rw (n, nodes (ap refused d), e)
 
 -- ---- what the reader prints
 

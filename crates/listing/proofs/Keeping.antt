@@ -1,14 +1,6 @@
 -- Memory of a fixed size keeps the records that it is given, one behind the other, as long as it has room for all of them. Assumes nothing.
-use mathlib.Core.Path.{◌≡◌, refl, sym, ◌∙◌}
-use mathlib.Core.Logic.{⊎_elim}
-use mathlib.Core.List.{List, [], ◌∷◌, ◌++◌, append_assoc, append-nil}
-use Prim.Native.Nat.{ℕ, suc, ◌+◌, ◌*◌, ◌≤◌, ◌<◌, min}
-use native.Mathlib.Nat.{add-zero, suc-mul, mul-one}
-use native.Mathlib.Numerals.{add-one}
-use native.Mathlib.Omega.{arith}
-use lib.ListN.{length, take, set, length-append, length-set}
-use lib.Seq.{take-suc-set, append_snoc}
-use borrow.Author.Tests.{lt-ltb, le-ltb}
+use Rattle.std.proofs.Common.{◌≡◌, refl, sym, ◌∙◌, ⊎_elim, List, [], ◌∷◌, ◌++◌, append_assoc, append-nil, ℕ, suc, ◌+◌, ◌*◌, ◌≤◌, ◌<◌, min, add-zero, suc-mul, mul-one, add-one, arith, length, take, set, length-append, length-set, take-suc-set, lt-ltb, le-ltb}
+use Rattle.std.proofs.Math.Seq.{append_snoc}
 use Rattle.laws.specs.Store.{behind, write_from, write}
 use Rattle.laws.proofs.Rows.{lt_or_ge, behind_is, stretch}
 use Rattle.laws.proofs.Records.{put_holds}

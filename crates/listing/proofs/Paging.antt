@@ -1,12 +1,6 @@
 -- How nodes are printed, one after the other, as the loop does. Assumes nothing.
-use mathlib.Core.Path.{◌≡◌, refl, sym, ap, ◌∙◌}
-use mathlib.Core.Bool.{Bool, true, false, cond}
-use mathlib.Core.List.{List, [], ◌∷◌, ◌++◌, append_assoc, append-nil}
-use Prim.Native.Nat.{ℕ, ◌+◌, ◌^◌, ◌≤◌, ◌<◌}
-use native.Mathlib.Numerals.{add-one}
-use native.Mathlib.Omega.{arith}
+use Rattle.std.proofs.Common.{◌≡◌, refl, sym, ap, ◌∙◌, Bool, true, false, cond, List, [], ◌∷◌, ◌++◌, append_assoc, append-nil, ℕ, ◌+◌, ◌^◌, ◌≤◌, ◌<◌, add-one, arith, length, length-append}
 use lib.Ieee.{binary32, ne, to_bits}
-use lib.ListN.{length, length-append}
 use Rattle.packing.specs.Ids.{dim2, coordinates}
 use Rattle.numeric.specs.Bits.{none}
 use Rattle.fields.specs.Write.{put_at, place_after}

@@ -1,16 +1,8 @@
 -- How a line is printed, a field at a time, as the loops do. Assumes nothing.
-use mathlib.Core.Path.{◌≡◌, refl, sym, ap, ◌∙◌}
-use mathlib.Core.Bool.{Bool, true, false}
-use mathlib.Core.List.{List, [], ◌∷◌, ◌++◌}
-use Prim.Native.Nat.{ℕ, zero, suc, ◌+◌, ◌-◌, ◌≤◌, ◌<◌}
-use native.Mathlib.Numerals.{add-one}
-use native.Mathlib.Omega.{arith}
-use lib.ListN.{length, drop, get_or, length-append, drop_of_length-le}
-use lib.Seq.{drop-cons, drop-drop}
-use lib.Dec.{leb}
-use borrow.Author.Tests.{eq-eqb, ne_eqb, le-leb, lt-leb, leb-true, leb-false}
-use Rattle.fields.specs.Write.{digits_of, places_of, text_of, put_at, place_after}
-use Rattle.fields.proofs.Writing.{length_digits, fits, full, length_put, put_none, put_more, put_then}
+use Rattle.std.proofs.lemmas.Bool.{lt-leb}
+use Rattle.std.proofs.Common.{◌≡◌, refl, sym, ap, ◌∙◌, Bool, true, false, List, [], ◌∷◌, ◌++◌, ℕ, zero, suc, ◌+◌, ◌-◌, ◌≤◌, ◌<◌, add-one, arith, length, drop, get_or, length-append, drop_of_length-le, drop-cons, drop-drop, leb, eq-eqb, ne_eqb, le-leb, leb-true, leb-false}
+use Rattle.fields.specs.Write.{digits_of, text_of, put_at, place_after}
+use Rattle.fields.proofs.Writing.{fits, full, length_put, put_none, put_more, put_then}
 use Rattle.listing.specs.Lines.{tab, line_feed, float, field_text, first_of, fields_text, line_text, ended_text}
 
 same_test : (a b m n : ℕ) → (a ≤ b → m ≤ n) → (m ≤ n → a ≤ b) → leb a b ≡ leb m n
@@ -22,17 +14,6 @@ same_test a b m n there back = go (leb a b) (leb m n) refl refl
     go false true p q = absurd (omega (arith, leb-false a b p, back (leb-true m n q)))
     go false false p q = refl
 
--- whether a line fits: its head, its fields and a line feed, from a place on
-module _ (len at head fields : ℕ) where
-  pub room_none : len < at → leb (at + (head + (fields + 1))) len ≡ false
-  room_none h = lt-leb (at + (head + (fields + 1))) len (omega arith)
-
-  pub room_head : len - at ≤ head → leb (at + (head + (fields + 1))) len ≡ false
-  room_head h = lt-leb (at + (head + (fields + 1))) len (omega arith)
-
-  pub room_fields : at ≤ len → head < len - at → leb fields (len - at - head - 1) ≡ leb (at + (head + (fields + 1))) len
-  room_fields h l = same_test fields (len - at - head - 1) (at + (head + (fields + 1))) len (λ a. omega arith) (λ a. omega arith)
-
 -- ---- a field
 
 module _ (kind v : ℕ) where
@@ -43,13 +24,6 @@ module _ (kind v : ℕ) where
   pub field_decimal : (kind ≡ float → ⊥) → field_text kind v ≡ text_of v
   unfolding field_text
   field_decimal e = rw (ne_eqb kind float e)
-
-  pub length_hex : kind ≡ float → 8 ≡ length (field_text kind v)
-  length_hex e = sym (length_digits 16 8 v) ∙ ap length (sym (field_hex e))
-
-  pub length_decimal : (kind ≡ float → ⊥) → places_of v v ≡ length (field_text kind v)
-  unfolding text_of
-  length_decimal e = sym (length_digits 10 (places_of v v) v) ∙ ap length (sym (field_decimal e))
 
   -- a tab, and the field behind it
   pub tab_then : (out : List ℕ) (at : ℕ) → at + (length (field_text kind v) + 1) ≤ length out → {one : List ℕ} {p : ℕ} → one ≡ put_at out at (tab ∷ []) → p ≡ place_after out at (tab ∷ [])
@@ -91,20 +65,20 @@ module _ (kinds values : List ℕ) where
   fit_not k room h l = lt-leb (length (left k)) room (omega (arith, length_one k h))
 
   pub fit_more : (k room : ℕ) → k < length kinds → length (field_text (get_or kinds k 0) (get_or values k 0)) < room
-      → leb (length (left k)) room ≡ leb (length (left (k + 1))) (room - length (field_text (get_or kinds k 0) (get_or values k 0)) - 1)
+      → leb (length (left k)) room ≡ leb (length (left (k + 1))) (room - (length (field_text (get_or kinds k 0) (get_or values k 0)) + 1))
   fit_more k room h l =
       let e = length_one k h in
-      same_test (length (left k)) room (length (left (k + 1))) (room - length (field_text (get_or kinds k 0) (get_or values k 0)) - 1) (λ a. omega arith) (λ a. omega arith)
+      same_test (length (left k)) room (length (left (k + 1))) (room - (length (field_text (get_or kinds k 0) (get_or values k 0)) + 1)) (λ a. omega arith) (λ a. omega arith)
 
   -- with the fields below k printed
   module _ (out : List ℕ) (place k : ℕ) (h : k < length kinds) (room : place + length (left k) ≤ length out) where
     pub put_one : {next : List ℕ} {q : ℕ} → next ≡ put_at out place (tab ∷ field_text (get_or kinds k 0) (get_or values k 0)) → q ≡ place + (length (field_text (get_or kinds k 0) (get_or values k 0)) + 1)
-        → (q + length (left (k + 1)) ≡ place + length (left k)) × (length next ≡ length out) × (put_at out place (left k) ≡ put_at next q (left (k + 1)))
+        → (q + length (left (k + 1)) ≡ place + length (left k)) × (put_at out place (left k) ≡ put_at next q (left (k + 1)))
     put_one {next} {q} e l =
         let field = tab ∷ field_text (get_or kinds k 0) (get_or values k 0) in
         let all : place + length (field ++ left (k + 1)) ≤ length out = rw (left_one k h) at room in
         let there : q ≡ place + length field = omega arith in
-        (omega (arith, length_one k h), ap length e ∙ length_put out place field, rw (left_one k h, e, there) (sym (put_more out place field (left (k + 1)) all)))
+        (omega (arith, length_one k h), rw (left_one k h, e, there) (sym (put_more out place field (left (k + 1)) all)))
 
   pub put_last : (out : List ℕ) (place k : ℕ) → length kinds ≤ k → place ≤ length out → put_at out place (left k) ≡ out
   put_last out place k h l = rw (left_none k h) (put_none out place l)

@@ -1,40 +1,21 @@
 -- How the fields of a line are read, one at a time, as the loop does. Assumes nothing.
-use mathlib.Core.Path.{◌≡◌, refl, sym, ap, ◌∙◌}
-use mathlib.Core.Bool.{Bool, true, false, cond, true≢false}
-use mathlib.Core.List.{List, [], ◌∷◌, ◌++◌, append_assoc, append-nil}
-use Prim.Native.Nat.{ℕ, ◌+◌, ◌≤◌, ◌<◌, min}
-use native.Mathlib.Numerals.{add-one}
-use native.Mathlib.Omega.{arith}
-use lib.ListN.{length, take, drop, get_or, set, drop_of_length-le}
-use lib.Seq.{slice, drop-cons, drop-drop, take-add, drop_at, length-take-le, take-length, take-suc-set, drop-length}
-use lib.Dec.{eqb, leb, ltb}
-use borrow.Author.Tests.{eq-eqb, ne_eqb, lt-ltb, le-ltb, eqb-true, eqb-false, ltb-true, ltb-false, leb-true, leb-false}
-use Rattle.fields.specs.Read.{before, place_of, begins_with, hex_of, decimal_of, read_in}
+use Rattle.std.proofs.lemmas.Bool.{eqb-false}
+use Rattle.std.proofs.Common.{None, Option, Some, ◌≡◌, refl, sym, ap, ◌∙◌, Bool, true, false, cond, true≢false, List, [], ◌∷◌, ◌++◌, append_assoc, append-nil, ℕ, ◌+◌, ◌≤◌, ◌<◌, min, add-one, arith, length, take, drop, get_or, set, drop_of_length-le, drop-cons, drop-drop, take-add, drop_at, length-take-le, take-suc-set, eqb, leb, ltb, eq-eqb, ne_eqb, lt-ltb, le-ltb, eqb-true, ltb-true, ltb-false, leb-true, leb-false}
+use Rattle.std.proofs.Math.Seq.{slice, take-length, drop-length}
+use Rattle.std.specs.Bool.{then_some}
+use Rattle.fields.specs.Read.{before, place_of, begins_with, read_in}
 use Rattle.fields.proofs.Reading.{read_in_lem}
-use Rattle.fields.specs.declared.Number.{Number}
-use Rattle.fields.specs.declared.Number.TheVariants.{Is, Bad}
-use Rattle.listing.specs.Lines.{tab, float, field_of, Values, are, unread, with, fields_of, line_of}
-use Rattle.listing.specs.Steps.{ends, step_of, values_in, ahead}
-use Rattle.listing.specs.declared.lines.Step.{Step}
-use Rattle.listing.specs.declared.lines.Step.TheVariants.{Value, NoField}
+use Rattle.listing.specs.Lines.{tab, field_of, Values, with, fields_of, line_of}
+use Rattle.listing.specs.Steps.{ends, step_of, ahead}
 
 -- ---- a field
 
-module _ (kind from to : ℕ) (s : List ℕ) where
-  pub in_hex : kind ≡ float → read_in (hex_of 8) from to s ≡ read_in (field_of kind) from to s
-  unfolding read_in field_of
-  in_hex e = rw (eq-eqb kind float e)
-
-  pub in_decimal : (kind ≡ float → ⊥) → read_in decimal_of from to s ≡ read_in (field_of kind) from to s
-  unfolding read_in field_of
-  in_decimal e = rw (ne_eqb kind float e)
-
 module _ (kind at : ℕ) (text : List ℕ) where
-  pub no_more : length text ≤ at → NoField ≡ step_of kind at text
+  pub no_more : length text ≤ at → None ≡ step_of kind at text
   unfolding step_of
   no_more h = rw (le-ltb at (length text) h)
 
-  pub no_tab : at < length text → (get_or text at 0 ≡ tab → ⊥) → NoField ≡ step_of kind at text
+  pub no_tab : at < length text → (get_or text at 0 ≡ tab → ⊥) → None ≡ step_of kind at text
   unfolding step_of
   no_tab h e = rw (lt-ltb at (length text) h, ne_eqb (get_or text at 0) tab e)
 
@@ -43,7 +24,7 @@ module _ (kind at : ℕ) (text : List ℕ) where
   a_tab h e = rw (lt-ltb at (length text) h, eq-eqb (get_or text at 0) tab e)
 
   -- as it is read: up to the next tab that is found, and a number there
-  pub read : at < length text → get_or text at 0 ≡ tab → {e : ℕ} → e ≡ place_of tab (at + 1) (take (length text) text) → e ≤ length text → {m : Number} → m ≡ read_in (field_of kind) (at + 1) e text
+  pub read : at < length text → get_or text at 0 ≡ tab → {e : ℕ} → e ≡ place_of tab (at + 1) (take (length text) text) → e ≤ length text → {m : Option ℕ} → m ≡ read_in (field_of kind) (at + 1) e text
       → ends m e ≡ step_of kind at text
   read h q {e} p l {m} r =
       let there : e ≡ place_of tab (at + 1) text = rw take-length at p in
@@ -51,9 +32,9 @@ module _ (kind at : ℕ) (text : List ℕ) where
 
 -- ---- a field and those behind it
 
-abbrev pub onwards : Step → List ℕ → List ℕ → Values
-onwards (Value v e) kinds text = with (Is v) (fields_of kinds (drop e text))
-onwards NoField kinds text = unread
+abbrev pub onwards : Option (ℕ × ℕ) → List ℕ → List ℕ → Values
+onwards (Some (v, e)) kinds text = with (Some v) (fields_of kinds (drop e text))
+onwards None kinds text = None
 
 part : (n m : ℕ) (l : List ℕ) → n ≤ length l → slice n (n + m) l ≡ take m (drop n l)
 part n m l h = rw (take-add n m l) (drop_at (take n l) (take m (drop n l)) n (length-take-le n l h))
@@ -62,23 +43,23 @@ place : (at : ℕ) (text : List ℕ) → at ≤ length text → place_of tab at 
 unfolding place_of
 place at text h = let e : min at (length text) ≡ at = omega arith in rw e
 
-ended : (m : Number) (e : ℕ) (kinds text : List ℕ) → with m (fields_of kinds (drop e text)) ≡ onwards (ends m e) kinds text
-ended (Is v) e kinds text = refl
-ended Bad e kinds text = refl
+ended : (m : Option ℕ) (e : ℕ) (kinds text : List ℕ) → with m (fields_of kinds (drop e text)) ≡ onwards (ends m e) kinds text
+ended (Some v) e kinds text = refl
+ended None e kinds text = refl
 
 pub field : (kind : ℕ) (kinds : List ℕ) (at : ℕ) (text : List ℕ) → fields_of (kind ∷ kinds) (drop at text) ≡ onwards (step_of kind at text) kinds text
 unfolding fields_of
 field kind kinds at text = go (ltb at (length text)) refl
   where
     at_tab : at < length text → (t : Bool) → eqb (get_or text at 0) tab ≡ t
-        → cond t (with (field_of kind (take (before tab (drop (at + 1) text)) (drop (at + 1) text))) (fields_of kinds (drop (before tab (drop (at + 1) text)) (drop (at + 1) text)))) unread
+        → cond t (with (field_of kind (take (before tab (drop (at + 1) text)) (drop (at + 1) text))) (fields_of kinds (drop (before tab (drop (at + 1) text)) (drop (at + 1) text)))) None
         ≡ onwards (step_of kind at text) kinds text
     at_tab h true e =
         let within : at + 1 ≤ length text = omega arith in
         rw (← part (at + 1) (before tab (drop (at + 1) text)) text within, drop-drop (before tab (drop (at + 1) text)) (at + 1) text, ← place (at + 1) text within)
         (ended (field_of kind (slice (at + 1) (place_of tab (at + 1) text) text)) (place_of tab (at + 1) text) kinds text
-        ∙ ap (λ (s : Step). onwards s kinds text) (a_tab kind at text h (eqb-true (get_or text at 0) tab e)))
-    at_tab h false e = ap (λ (s : Step). onwards s kinds text) (no_tab kind at text h (eqb-false (get_or text at 0) tab e))
+        ∙ ap (λ (s : Option (ℕ × ℕ)). onwards s kinds text) (a_tab kind at text h (eqb-true (get_or text at 0) tab e)))
+    at_tab h false e = ap (λ (s : Option (ℕ × ℕ)). onwards s kinds text) (no_tab kind at text h (eqb-false (get_or text at 0) tab e))
 
     go : (t : Bool) → ltb at (length text) ≡ t → fields_of (kind ∷ kinds) (drop at text) ≡ onwards (step_of kind at text) kinds text
     go true e =
@@ -86,26 +67,26 @@ field kind kinds at text = go (ltb at (length text)) refl
         rw (drop-cons text at 0 h, ← add-one at) (at_tab h (eqb (get_or text at 0) tab) refl)
     go false e =
         let h = ltb-false at (length text) e in
-        rw (drop_of_length-le text h) (ap (λ (s : Step). onwards s kinds text) (no_more kind at text h))
+        rw (drop_of_length-le text h) (ap (λ (s : Option (ℕ × ℕ)). onwards s kinds text) (no_more kind at text h))
 
 -- ---- values ahead of others
 
-pub ahead_one : (vs : List ℕ) (v : ℕ) (rest : Values) → ahead vs (with (Is v) rest) ≡ ahead (vs ++ (v ∷ [])) rest
-ahead_one vs v (are ws) = ap are (sym (append_assoc vs (v ∷ []) ws))
-ahead_one vs v unread = refl
+pub ahead_one : (vs : List ℕ) (v : ℕ) (rest : Values) → ahead vs (with (Some v) rest) ≡ ahead (vs ++ (v ∷ [])) rest
+ahead_one vs v (Some ws) = ap Some (sym (append_assoc vs (v ∷ []) ws))
+ahead_one vs v None = refl
 
 pub ahead_none : (rest : Values) → ahead [] rest ≡ rest
-ahead_none (are ws) = refl
-ahead_none unread = refl
+ahead_none (Some ws) = refl
+ahead_none None = refl
 
 -- ---- a line
 
 module _ (letter : ℕ) (kinds text : List ℕ) where
-  pub other_line : begins_with letter text ≡ false → unread ≡ line_of letter kinds text
+  pub other_line : begins_with letter text ≡ false → None ≡ line_of letter kinds text
   unfolding line_of begins_with
   other_line = go text
     where
-      go : (xs : List ℕ) → begins_with letter xs ≡ false → unread ≡ line_of letter kinds xs
+      go : (xs : List ℕ) → begins_with letter xs ≡ false → None ≡ line_of letter kinds xs
       go [] e = refl
       go (x ∷ xs) e = rw e
 
@@ -117,10 +98,6 @@ module _ (letter : ℕ) (kinds text : List ℕ) where
       go [] e = absurd (true≢false (sym e))
       go (x ∷ xs) e = (rw e, omega arith)
 
-pub bad_line : (values : List ℕ) (n : ℕ) → values_in (record { good = false; values = values }) n ≡ unread
-unfolding values_in
-bad_line values n = refl
-
 -- with k values read, and the line read up to `at`
 module _ (letter : ℕ) (kinds text values : List ℕ) (at k : ℕ) (inv : line_of letter kinds text ≡ ahead (take k values) (fields_of (drop k kinds) (drop at text))) where
   turn : k < length kinds → line_of letter kinds text ≡ ahead (take k values) (onwards (step_of (get_or kinds k 0) at text) (drop (k + 1) kinds) text)
@@ -128,20 +105,20 @@ module _ (letter : ℕ) (kinds text values : List ℕ) (at k : ℕ) (inv : line_
       let cut : drop k kinds ≡ get_or kinds k 0 ∷ drop (k + 1) kinds = rw add-one (drop-cons kinds k 0 h) in
       rw (cut, field) at inv
 
-  pub turn_none : k < length kinds → step_of (get_or kinds k 0) at text ≡ NoField → (n : ℕ) → values_in (record { good = false; values = values }) n ≡ line_of letter kinds text
-  turn_none h e n = bad_line values n ∙ sym (rw e at (turn h))
+  pub turn_none : k < length kinds → step_of (get_or kinds k 0) at text ≡ None → None ≡ line_of letter kinds text
+  turn_none h e = sym (rw e at (turn h))
 
-  pub turn_one : k < length kinds → k < length values → {v e : ℕ} → step_of (get_or kinds k 0) at text ≡ Value v e
+  pub turn_one : k < length kinds → k < length values → {v e : ℕ} → step_of (get_or kinds k 0) at text ≡ Some (v, e)
       → line_of letter kinds text ≡ ahead (take (k + 1) (set values k v)) (fields_of (drop (k + 1) kinds) (drop e text))
   turn_one h l {v} {e} q = (rw q at (turn h)) ∙ ahead_one (take k values) v (fields_of (drop (k + 1) kinds) (drop e text)) ∙ rw (add-one k, take-suc-set values k v l)
 
-  pub last : k ≡ length kinds → values_in (record { good = leb (length text) at; values = values }) (length kinds) ≡ line_of letter kinds text
-  unfolding values_in fields_of
-  last e = go (leb (length text) at) refl
+  pub last : k ≡ length kinds → length values ≡ length kinds → then_some (leb (length text) at) values ≡ line_of letter kinds text
+  unfolding fields_of
+  last e l = go (leb (length text) at) refl
     where
-      rest : line_of letter kinds text ≡ ahead (take (length kinds) values) (fields_of [] (drop at text))
-      rest = rw (e, drop-length) at inv
+      rest : line_of letter kinds text ≡ ahead values (fields_of [] (drop at text))
+      rest = rw (e, drop-length, ← l, take-length) at inv
 
-      go : (t : Bool) → leb (length text) at ≡ t → cond t (are (take (length kinds) values)) unread ≡ line_of letter kinds text
+      go : (t : Bool) → leb (length text) at ≡ t → then_some t values ≡ line_of letter kinds text
       go true q = sym (rw (drop_of_length-le text (leb-true (length text) at q), append-nil) at rest)
       go false q = sym (rw (drop-cons text at 0 (leb-false (length text) at q)) at rest)

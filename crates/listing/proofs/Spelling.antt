@@ -1,38 +1,28 @@
 -- What is proved of a line: what is read is the printed form of its values, every printed form is read, a readable line is short, and a printed one has no line feed in it.
 -- Assumes nothing.
-use Prim.Native.Nat.{ℕ, suc, ◌+◌, ◌^◌, ◌≤◌, ◌<◌}
-use mathlib.Core.Path.{◌≡◌, refl, ap}
-use mathlib.Core.Bool.{Bool, true, false, cond}
-use mathlib.Core.List.{List, [], ◌∷◌, ◌++◌}
-use native.Mathlib.Omega.{arith}
-use lib.ListN.{length, take, drop, length-append, take-append-drop}
-use lib.Seq.{take_at, drop_at}
-use lib.Dec.{eqb}
-use borrow.Author.Tests.{eq-eqb, eqb-true}
+use Rattle.std.proofs.Common.{None, Option, Some, ℕ, suc, ◌+◌, ◌^◌, ◌≤◌, ◌<◌, ◌≡◌, refl, ap, Bool, true, false, cond, List, [], ◌∷◌, ◌++◌, arith, length, take, drop, length-append, take-append-drop, take_at, drop_at, eqb, eq-eqb, eqb-true}
 use Rattle.fields.specs.Read.{before, hex_of, decimal_of}
 use Rattle.fields.specs.Write.{digits_of, text_of}
-use Rattle.fields.specs.declared.Number.{Number}
-use Rattle.fields.specs.declared.Number.TheVariants.{Is, Bad}
 use Rattle.fields.proofs.Back.{hex_back, decimal_back}
 use Rattle.fields.proofs.Forth.{hex_forth, decimal_forth, length_text, before_past, digits_without, text_without}
 use Rattle.fields.proofs.Writing.{length_digits}
-use Rattle.listing.specs.Lines.{tab, line_feed, float, limit, field_text, field_of, first_of, fields_text, line_text, Values, are, unread, with, fields_of, line_of, Fit, Laws}
+use Rattle.listing.specs.Lines.{tab, line_feed, float, limit, field_text, field_of, first_of, fields_text, line_text, Values, with, fields_of, line_of, Fit, Laws}
 
 -- ---- a field
 
-field_sound : (kind v : ℕ) (text : List ℕ) → field_of kind text ≡ Is v → (v < limit kind) × (text ≡ field_text kind v)
+field_sound : (kind v : ℕ) (text : List ℕ) → field_of kind text ≡ Some v → (v < limit kind) × (text ≡ field_text kind v)
 unfolding field_of field_text
 field_sound kind v text = go (eqb kind float)
   where
-    go : (t : Bool) → cond t (hex_of 8 text) (decimal_of text) ≡ Is v → (v < cond t (2 ^ 32) (2 ^ 64)) × (text ≡ cond t (digits_of 16 8 v) (text_of v))
+    go : (t : Bool) → cond t (hex_of 8 text) (decimal_of text) ≡ Some v → (v < cond t (2 ^ 32) (2 ^ 64)) × (text ≡ cond t (digits_of 16 8 v) (text_of v))
     go true e = let r = hex_forth 8 v text e in (omega (arith, r.0), r.2)
     go false e = decimal_forth v text e
 
-field_complete : (kind v : ℕ) → v < limit kind → field_of kind (field_text kind v) ≡ Is v
+field_complete : (kind v : ℕ) → v < limit kind → field_of kind (field_text kind v) ≡ Some v
 unfolding field_of field_text
 field_complete kind v = go (eqb kind float)
   where
-    go : (t : Bool) → v < cond t (2 ^ 32) (2 ^ 64) → cond t (hex_of 8 (cond t (digits_of 16 8 v) (text_of v))) (decimal_of (cond t (digits_of 16 8 v) (text_of v))) ≡ Is v
+    go : (t : Bool) → v < cond t (2 ^ 32) (2 ^ 64) → cond t (hex_of 8 (cond t (digits_of 16 8 v) (text_of v))) (decimal_of (cond t (digits_of 16 8 v) (text_of v))) ≡ Some v
     go true l = hex_back 8 v (omega arith) (omega arith) (omega arith) (omega arith)
     go false l = decimal_back v l
 
@@ -60,12 +50,12 @@ field_without b kind v h = go (eqb kind float)
 -- ---- the fields
 
 -- a field that was read: its value, and what stands behind it
-with_are : (f : Number) (r : Values) (values : List ℕ) → with f r ≡ are values → (v : ℕ) × (vs : List ℕ) × (f ≡ Is v) × (r ≡ are vs) × (values ≡ v ∷ vs)
-with_are (Is v) (are vs) values e = (v, vs, refl, refl, cc)
-with_are (Is v) unread values e = let z : ◌≡◌ {A = ℕ} 0 1 = cc in absurd (omega arith)
-with_are Bad r values e = let z : ◌≡◌ {A = ℕ} 0 1 = cc in absurd (omega arith)
+with_are : (f : Option ℕ) (r : Values) (values : List ℕ) → with f r ≡ Some values → (v : ℕ) × (vs : List ℕ) × (f ≡ Some v) × (r ≡ Some vs) × (values ≡ v ∷ vs)
+with_are (Some v) (Some vs) values e = (v, vs, refl, refl, cc)
+with_are (Some v) None values e = let z : ◌≡◌ {A = ℕ} 0 1 = cc in absurd (omega arith)
+with_are None r values e = let z : ◌≡◌ {A = ℕ} 0 1 = cc in absurd (omega arith)
 
-fields_sound : (kinds text values : List ℕ) → fields_of kinds text ≡ are values → Fit kinds values × (text ≡ fields_text kinds values)
+fields_sound : (kinds text values : List ℕ) → fields_of kinds text ≡ Some values → Fit kinds values × (text ≡ fields_text kinds values)
 unfolding fields_of fields_text
 fields_sound [] [] values e = let q : [] ≡ values = cc in rw (← q) (tt, refl)
 fields_sound [] (x ∷ text) values e = let z : ◌≡◌ {A = ℕ} 0 1 = cc in absurd (omega arith)
@@ -75,8 +65,8 @@ fields_sound (kind ∷ kinds) (x ∷ text) values e = go (fields_sound kinds (dr
     n : ℕ
     n = before tab text
 
-    go : ((vs : List ℕ) → fields_of kinds (drop n text) ≡ are vs → Fit kinds vs × (drop n text ≡ fields_text kinds vs))
-        → (t : Bool) → eqb x tab ≡ t → cond t (with (field_of kind (take n text)) (fields_of kinds (drop n text))) unread ≡ are values
+    go : ((vs : List ℕ) → fields_of kinds (drop n text) ≡ Some vs → Fit kinds vs × (drop n text ≡ fields_text kinds vs))
+        → (t : Bool) → eqb x tab ≡ t → cond t (with (field_of kind (take n text)) (fields_of kinds (drop n text))) None ≡ Some values
         → Fit (kind ∷ kinds) values × (x ∷ text ≡ fields_text (kind ∷ kinds) values)
     go rest true l e =
         let (v, vs, f, r, q) = with_are (field_of kind (take n text)) (fields_of kinds (drop n text)) values e in
@@ -91,7 +81,7 @@ unfolding before fields_text
 fields_tab [] values = refl
 fields_tab (kind ∷ kinds) values = refl
 
-fields_complete : (kinds values : List ℕ) → Fit kinds values → fields_of kinds (fields_text kinds values) ≡ are values
+fields_complete : (kinds values : List ℕ) → Fit kinds values → fields_of kinds (fields_text kinds values) ≡ Some values
 unfolding fields_of fields_text
 fields_complete [] [] f = refl
 fields_complete [] (v ∷ vs) f = absurd f
@@ -128,21 +118,21 @@ fields_feed (kind ∷ kinds) values =
 pub line_feed_lem : (head kinds values : List ℕ) → before line_feed head ≡ length head → before line_feed (line_text head kinds values) ≡ length (line_text head kinds values)
 line_feed_lem head kinds values h = rw (before_past line_feed head (fields_text kinds values) h, fields_feed kinds values, length-append)
 
-pub line_sound : (letter : ℕ) (kinds text values : List ℕ) → line_of letter kinds text ≡ are values → Fit kinds values × (text ≡ line_text (letter ∷ []) kinds values)
+pub line_sound : (letter : ℕ) (kinds text values : List ℕ) → line_of letter kinds text ≡ Some values → Fit kinds values × (text ≡ line_text (letter ∷ []) kinds values)
 unfolding line_of
 line_sound letter kinds [] values e = let z : ◌≡◌ {A = ℕ} 0 1 = cc in absurd (omega arith)
 line_sound letter kinds (x ∷ text) values e = go (eqb x letter) refl e
   where
-    go : (t : Bool) → eqb x letter ≡ t → cond t (fields_of kinds text) unread ≡ are values → Fit kinds values × (x ∷ text ≡ letter ∷ fields_text kinds values)
+    go : (t : Bool) → eqb x letter ≡ t → cond t (fields_of kinds text) None ≡ Some values → Fit kinds values × (x ∷ text ≡ letter ∷ fields_text kinds values)
     go true l e = let r = fields_sound kinds text values e in (r.0, rw (eqb-true x letter l) (ap (λ (ys : List ℕ). letter ∷ ys) r.1))
     go false l e = let z : ◌≡◌ {A = ℕ} 0 1 = cc in absurd (omega arith)
 
-pub line_complete : (letter : ℕ) (kinds values : List ℕ) → Fit kinds values → line_of letter kinds (line_text (letter ∷ []) kinds values) ≡ are values
+pub line_complete : (letter : ℕ) (kinds values : List ℕ) → Fit kinds values → line_of letter kinds (line_text (letter ∷ []) kinds values) ≡ Some values
 unfolding line_of
 line_complete letter kinds values f = rw (eq-eqb letter letter refl) (fields_complete kinds values f)
 
 -- a line is no longer than its letter and its widest fields: no line of the listing is as long as 256 bytes
-pub length_line : (letter : ℕ) (kinds text values : List ℕ) → line_of letter kinds text ≡ are values → length text ≤ suc (widest kinds)
+pub length_line : (letter : ℕ) (kinds text values : List ℕ) → line_of letter kinds text ≡ Some values → length text ≤ suc (widest kinds)
 length_line letter kinds text values e =
     let r = line_sound letter kinds text values e in
     rw r.1 (omega (arith, fields_short kinds values r.0))

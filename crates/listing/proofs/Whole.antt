@@ -1,22 +1,13 @@
 -- A text that the reader is fed, whole or in pieces, is answered as document 01 says of the whole text. Assumes nothing.
-use mathlib.Core.Path.{◌≡◌, refl, sym, ap, ◌∙◌}
-use mathlib.Core.Bool.{Bool, true, false, cond}
-use mathlib.Core.Logic.{⊎_elim}
-use mathlib.Core.List.{List, [], ◌∷◌, ◌++◌}
-use Prim.Native.Nat.{ℕ, suc, ◌+◌, ◌-◌, ◌*◌, ◌^◌, ◌≤◌, ◌<◌, min}
-use native.Mathlib.Nat.{mul-one}
-use native.Mathlib.Numerals.{add-one}
-use native.Mathlib.Omega.{arith}
-use lib.ListN.{length, take, length-append, length-set}
-use lib.Seq.{take_all, take-suc-set, take-append-le, length-take-le}
-use lib.Dec.{eqb}
-use borrow.Author.Tests.{eq-eqb, ne_eqb, lt-ltb, le-ltb, le-leb, lt-leb, eqb-true, eqb-false}
+use Rattle.std.proofs.lemmas.Bool.{lt-leb, eqb-false}
+use Rattle.std.proofs.Common.{Err, None, Ok, Option, Some, ◌≡◌, refl, sym, ap, ◌∙◌, Bool, true, false, cond, ⊎_elim, List, [], ◌∷◌, ◌++◌, ℕ, suc, ◌+◌, ◌-◌, ◌*◌, ◌^◌, ◌≤◌, ◌<◌, min, mul-one, add-one, arith, length, take, length-append, length-set, take_all, take-suc-set, length-take-le, eqb, eq-eqb, ne_eqb, lt-ltb, le-ltb, le-leb, eqb-true}
+use Rattle.std.proofs.Math.Seq.{take-append-le}
 use Rattle.laws.specs.Store.{store}
 use Rattle.laws.proofs.Rows.{lt_or_ge}
 use Rattle.grid.specs.Table.{words_per_range}
 use Rattle.particles.specs.Particles.{floats_per_particle, words_per_particle}
-use Rattle.listing.specs.Lines.{line_feed, Values, are, unread, line_of}
-use Rattle.listing.specs.Listing.{w, settings_kinds, r, region_kinds, p, particle_kinds, Listing, empty, reads, unreadable, Taken, taken, refused, is_none, with_settings, line_taken, ended, onward, read_from, read_listing}
+use Rattle.listing.specs.Lines.{line_feed, Values, line_of}
+use Rattle.listing.specs.Listing.{w, settings_kinds, r, region_kinds, p, particle_kinds, Listing, empty, is_none, with_settings, line_taken, ended, onward, read_from, read_listing}
 use Rattle.listing.specs.Listing as Listed
 use Rattle.listing.specs.Bench.{settings_of, ids_of, ranges_of, particle_floats_of, particle_words_of, called, kept_regions, kept_particles, within_limits, no_text, limit_number, unreadable_number, answer_to, answer}
 use Rattle.listing.specs.Feeding.{settings_read, region_read, particle_read, Memory, line_bytes, State, first, pushed, spoiled, advanced, settings_taken, region_taken, particle_taken, line_ended, fed_byte, fed, printed, Sized, Laws}
@@ -82,9 +73,9 @@ byte_more {s} {k} {l} {line} h b =
 -- ---- the end of a line
 
 -- the state after it, of what the line is
-abbrev After : State → ℕ → Taken → State → Type 0
-After s k (taken l) t = Represents t (suc k) l []
-After s k refused t = t ≡ spoiled s
+abbrev After : State → ℕ → Option Listing → State → Type 0
+After s k (Some l) t = Represents t (suc k) l []
+After s k None t = t ≡ spoiled s
 
 module _ {s : State} {k : ℕ} {l : Listing} {line : List ℕ} (h : Represents s k l line) (fits : k + 1 < 2 ^ 64) where
   -- a line that may come leaves the next line's start
@@ -94,24 +85,24 @@ module _ {s : State} {k : ℕ} {l : Listing} {line : List ℕ} (h : Represents s
       record { readable = h.readable; index = rw (h.index, lt-ltb k (2 ^ 64 - 1) (omega arith)) (add-one k); have = refl; bytes = refl; settings = λ ne. e; kept = q }
 
   settings_ended : (v : Values) → After s k (with_settings v l) (settings_taken (settings_read v) s)
-  settings_ended (are vs) = onto (settings_of vs) s.reader.regions s.reader.particles s.memory _ refl h.kept
-  settings_ended unread = refl
+  settings_ended (Some vs) = onto (settings_of vs) s.reader.regions s.reader.particles s.memory _ refl h.kept
+  settings_ended None = refl
 
   particle_ended : (k ≡ 0 → ⊥) → (v : Values) → After s k (Listed.with_particle v l) (particle_taken (particle_read v) s)
-  particle_ended ne (are vs) = onto s.reader.settings s.reader.regions _ _ _ (h.settings ne) (particle_more s.memory s.reader.regions s.reader.particles l.regions l.particles vs h.kept)
-  particle_ended ne unread = refl
+  particle_ended ne (Some vs) = onto s.reader.settings s.reader.regions _ _ _ (h.settings ne) (particle_more s.memory s.reader.regions s.reader.particles l.regions l.particles vs h.kept)
+  particle_ended ne None = refl
 
-  region_ended : (k ≡ 0 → ⊥) → (v : Values) (other : Taken) (t : State) → After s k other t → After s k (Listed.with_region v l other) (region_taken (region_read v) s t)
-  region_ended ne (are vs) other t a = onto s.reader.settings _ _ _ _ (h.settings ne) (region_more s.memory s.reader.regions s.reader.particles l.regions l.particles vs h.kept)
-  region_ended ne unread other t a = a
+  region_ended : (k ≡ 0 → ⊥) → (v : Values) (other : Option Listing) (t : State) → After s k other t → After s k (Listed.with_region v l other) (region_taken (region_read v) s t)
+  region_ended ne (Some vs) other t a = onto s.reader.settings _ _ _ _ (h.settings ne) (region_more s.memory s.reader.regions s.reader.particles l.regions l.particles vs h.kept)
+  region_ended ne None other t a = a
 
 -- A line of which not all is kept is too long to be read, and so are the bytes that are kept of it.
-too_long : (letter : ℕ) (kinds text : List ℕ) → suc (widest kinds) < length text → line_of letter kinds text ≡ unread
+too_long : (letter : ℕ) (kinds text : List ℕ) → suc (widest kinds) < length text → line_of letter kinds text ≡ None
 too_long letter kinds text h = go (line_of letter kinds text) refl
   where
-    go : (v : Values) → line_of letter kinds text ≡ v → line_of letter kinds text ≡ unread
-    go (are vs) e = absurd (omega (arith, length_line letter kinds text vs e))
-    go unread e = e
+    go : (v : Values) → line_of letter kinds text ≡ v → line_of letter kinds text ≡ None
+    go (Some vs) e = absurd (omega (arith, length_line letter kinds text vs e))
+    go None e = e
 
 line_cut : (n letter : ℕ) (kinds line : List ℕ) → suc (widest kinds) < n → line_of letter kinds (take n line) ≡ line_of letter kinds line
 line_cut n letter kinds line h =
@@ -175,7 +166,7 @@ text_ended {s} {k} {l} [] h = go (eqb k 0) refl
     told : eqb s.reader.have 0 ≡ true
     told = eq-eqb s.reader.have 0 (omega arith)
 
-    go : (t : Bool) → eqb k 0 ≡ t → printed s ≡ answer_to (cond t (unreadable 0) (reads l))
+    go : (t : Bool) → eqb k 0 ≡ t → printed s ≡ answer_to (cond t (Err 0) (Ok l))
     go true e = rw (h.readable, told, ap (λ (i : ℕ). eqb i 0) h.index, e) (ap (no_text unreadable_number) (h.index ∙ eqb-true k 0 e))
     go false e = rw (h.readable, told, ap (λ (i : ℕ). eqb i 0) h.index, e, h.settings (eqb-false k 0 e)) (kept_called h.kept (settings_of l.settings))
 text_ended {s} {k} {l} (x ∷ line) h = rw (h.readable, ne_eqb s.reader.have 0 (λ z. omega arith)) (ap (no_text unreadable_number) h.index)
@@ -188,7 +179,7 @@ unfolding fed fed_byte
 spoiled_stays s [] = refl
 spoiled_stays s (b ∷ text) = spoiled_stays s text
 
-spoiled_says : {s : State} {k : ℕ} {l : Listing} {line : List ℕ} → Represents s k l line → printed (spoiled s) ≡ answer_to (unreadable k)
+spoiled_says : {s : State} {k : ℕ} {l : Listing} {line : List ℕ} → Represents s k l line → printed (spoiled s) ≡ answer_to (Err k)
 unfolding printed answer_to
 spoiled_says h = ap (no_text unreadable_number) h.index
 
@@ -199,9 +190,9 @@ byte_read : (b : ℕ) (text : List ℕ) (s : State) (k : ℕ) (l : Listing) (lin
 unfolding fed fed_byte read_from
 byte_read b text s k l line h fits rest = ap (λ (t : Bool). printed (fed (cond t (cond (eqb b line_feed) (line_ended s) (pushed s b)) s) text)) h.readable ∙ go (eqb b line_feed)
   where
-    after : (q : Taken) (t : State) → After s k q t → printed (fed t text) ≡ answer_to (onward k q (λ (m : Listing). read_from (suc k) m [] text))
-    after (taken m) t a = rest t (suc k) m [] a (omega arith)
-    after refused t a = rw (a, spoiled_stays s text) (spoiled_says h)
+    after : (q : Option Listing) (t : State) → After s k q t → printed (fed t text) ≡ answer_to (onward k q (λ (m : Listing). read_from (suc k) m [] text))
+    after (Some m) t a = rest t (suc k) m [] a (omega arith)
+    after None t a = rw (a, spoiled_stays s text) (spoiled_says h)
 
     go : (t : Bool) → printed (fed (cond t (line_ended s) (pushed s b)) text)
         ≡ answer_to (cond t (onward k (line_taken k l line) (λ (m : Listing). read_from (suc k) m [] text)) (read_from k l (line ++ (b ∷ [])) text))

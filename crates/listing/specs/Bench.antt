@@ -1,6 +1,6 @@
 -- Document 01, "The bench listing": what the program prints for a text: it clears, scatters, prints nodes whose mass is not zero, list order, then y, then x; a refusal prints only
 -- `no`, number, index. Definitions only.
-use Rattle.std.specs.Prelude.{Bool, true, false, cond, ◌&&◌, List, [], ◌∷◌, ◌++◌, map, ℕ, zero, suc, ◌*◌, ◌/◌, ◌%◌, ◌^◌, min, length, get_or, replicate, leb, Float}
+use Rattle.std.specs.Prelude.{Bool, true, false, cond, ◌&&◌, List, [], ◌∷◌, ◌++◌, map, ℕ, zero, suc, ◌*◌, ◌/◌, ◌%◌, ◌^◌, min, length, get_or, replicate, leb, Float, Err, Ok}
 use Rattle.std.specs.Float.{binary32}
 use Rattle.std.specs.Float.Ieee.{ne, of_bits, to_bits}
 use Rattle.packing.specs.Ids.{dim2, cell_of}
@@ -8,17 +8,15 @@ use Rattle.numeric.specs.Axes.{axes}
 use Rattle.numeric.specs.Bits.{none}
 use Rattle.laws.specs.Store.{Store, store}
 use Rattle.cells.specs.Cells.{read_back}
-use Rattle.grid.specs.Answers.{number_of, index_of, refused}
+use Rattle.grid.specs.Answers.{number_of, index_of, refused, Answer, done}
 use Rattle.grid.specs.Nodes.{floats_per_node, words_per_node, region_cells, node_at}
 use Rattle.grid.specs.Clear.{cleared}
-use Rattle.grid.specs.declared.Answer.{Answer}
-use Rattle.grid.specs.declared.Answer.TheVariants.{Done}
 use Rattle.grid.specs.declared.grid_node.GridNode.{GridNode}
 use Rattle.particles.specs.Particles.{particle_form}
 use Rattle.particles.specs.declared.particle.Particle.{Particle}
 use Rattle.scatter.specs.Scatter.{scatter_check, scattered}
 use Rattle.listing.specs.Lines.{float, decimal, ended_text}
-use Rattle.listing.specs.Listing.{Read, reads, unreadable, read_listing}
+use Rattle.listing.specs.Listing.{read_listing, Read}
 use Rattle.listing.specs.declared.records.Settings.{Settings}
 use Rattle.listing.specs.declared.records.Region.{Region}
 
@@ -118,7 +116,7 @@ listed ids n s = nodes_text ids s (shown s n) ++ ok_text (length (shown s n))
 module _ (w : Settings) (regions : ℕ) (ids ranges : List ℕ) (count : ℕ) (particles : Store) where
   unfoldable pub bench_check : Answer
   bench_check =
-      scatter_check Done w.cell_width w.dt (axes w.gravity) regions ids ranges count particles
+      scatter_check done w.cell_width w.dt (axes w.gravity) regions ids ranges count particles
       (regions * (region_cells * floats_per_node)) (regions * (region_cells * words_per_node))
 
   unfoldable pub bench_nodes : Store
@@ -144,8 +142,8 @@ abbrev pub within_limits : ℕ → ℕ → Bool
 within_limits regions particles = leb regions kept_regions && leb particles kept_particles
 
 unfoldable pub answer_to : Read → List ℕ
-answer_to (unreadable k) = no_text unreadable_number k
-answer_to (reads l) =
+answer_to (Err k) = no_text unreadable_number k
+answer_to (Ok l) =
     cond (within_limits (length l.regions) (length l.particles))
     (called (settings_of l.settings) (length l.regions) (ids_of l.regions) (ranges_of l.regions) (length l.particles) (store (particle_floats_of l.particles) (particle_words_of l.particles)))
     (no_text limit_number 0)

@@ -1,38 +1,32 @@
 -- The listing's reader: a state that is fed the text in pieces, in a fixed amount of memory, and what it then prints. Definitions, and what is proved of them: that any split of the
 -- text leaves the same state, and that the state prints what document 01 says of the whole text.
 -- Assumes nothing.
-use Rattle.std.specs.Prelude.{◌≡◌, Bool, true, false, cond, ◌&&◌, not, List, [], ◌∷◌, ◌++◌, ℕ, ◌+◌, ◌-◌, ◌*◌, ◌^◌, ◌<◌, length, take, set, eqb, ltb, Float}
+use Rattle.std.specs.Prelude.{◌≡◌, Bool, true, false, cond, ◌&&◌, not, List, [], ◌∷◌, ◌++◌, ℕ, ◌+◌, ◌-◌, ◌*◌, ◌^◌, ◌<◌, length, take, set, eqb, ltb, Float, None, Option, Some}
 use Rattle.numeric.specs.Bits.{none}
 use Rattle.laws.specs.Store.{Store, store, Holds}
 use Rattle.grid.specs.Table.{words_per_range}
 use Rattle.particles.specs.Particles.{floats_per_particle, words_per_particle, particle_form, put_particle}
 use Rattle.particles.specs.declared.particle.Particle.{Particle}
-use Rattle.listing.specs.Lines.{line_feed, Values, are, unread, line_of}
+use Rattle.listing.specs.Lines.{line_feed, Values, line_of}
 use Rattle.listing.specs.Listing.{w, settings_kinds, r, region_kinds, p, particle_kinds}
 use Rattle.listing.specs.Bench.{settings_of, region_of, particle_of, called, kept_regions, kept_particles, within_limits, no_text, limit_number, unreadable_number, answer}
 use Rattle.listing.specs.declared.records.Settings.{Settings}
 use Rattle.listing.specs.declared.records.Region.{Region}
-use Rattle.listing.specs.declared.records.SettingsLine.{SettingsLine}
-use Rattle.listing.specs.declared.records.SettingsLine.TheVariants.{AreSettings, NoSettings}
-use Rattle.listing.specs.declared.records.RegionLine.{RegionLine}
-use Rattle.listing.specs.declared.records.RegionLine.TheVariants.{IsRegion, NoRegion}
-use Rattle.listing.specs.declared.records.ParticleLine.{ParticleLine}
-use Rattle.listing.specs.declared.records.ParticleLine.TheVariants.{IsParticle, NoParticle}
 use Rattle.listing.specs.declared.reader.Reader.{Reader}
 
 -- ---- a line as a record
 
-abbrev pub settings_read : Values → SettingsLine
-settings_read (are vs) = AreSettings (settings_of vs)
-settings_read unread = NoSettings
+abbrev pub settings_read : Values → Option Settings
+settings_read (Some vs) = Some (settings_of vs)
+settings_read None = None
 
-abbrev pub region_read : Values → RegionLine
-region_read (are vs) = IsRegion (region_of vs)
-region_read unread = NoRegion
+abbrev pub region_read : Values → Option Region
+region_read (Some vs) = Some (region_of vs)
+region_read None = None
 
-abbrev pub particle_read : Values → ParticleLine
-particle_read (are vs) = IsParticle (particle_of vs)
-particle_read unread = NoParticle
+abbrev pub particle_read : Values → Option Particle
+particle_read (Some vs) = Some (particle_of vs)
+particle_read None = None
 
 -- ---- the state
 
@@ -101,9 +95,9 @@ advanced q settings regions particles =
 abbrev pub one_more : ℕ → ℕ → ℕ
 one_more kept n = cond (ltb n kept) (n + 1) (kept + 1)
 
-abbrev pub settings_taken : SettingsLine → State → State
-settings_taken (AreSettings v) s = record { reader = advanced s.reader v s.reader.regions s.reader.particles; memory = s.memory }
-settings_taken NoSettings s = spoiled s
+abbrev pub settings_taken : Option Settings → State → State
+settings_taken (Some v) s = record { reader = advanced s.reader v s.reader.regions s.reader.particles; memory = s.memory }
+settings_taken None s = spoiled s
 
 -- a region in its place
 unfoldable pub with_region : Memory → ℕ → Region → Memory
@@ -117,22 +111,22 @@ with_region m n v =
     })
     m
 
-abbrev pub region_taken : RegionLine → State → State → State
-region_taken (IsRegion v) s other =
+abbrev pub region_taken : Option Region → State → State → State
+region_taken (Some v) s other =
     let q = s.reader in
     record { reader = advanced q q.settings (one_more kept_regions q.regions) q.particles; memory = with_region s.memory q.regions v }
-region_taken NoRegion s other = other
+region_taken None s other = other
 
 -- a particle in its place
 unfoldable pub with_particle : Memory → ℕ → Particle → Memory
 with_particle m n v =
     cond (ltb n kept_particles) (record { line = m.line; ids = m.ids; ranges = m.ranges; particles = put_particle m.particles n v }) m
 
-abbrev pub particle_taken : ParticleLine → State → State
-particle_taken (IsParticle v) s =
+abbrev pub particle_taken : Option Particle → State → State
+particle_taken (Some v) s =
     let q = s.reader in
     record { reader = advanced q q.settings q.regions (one_more kept_particles q.particles); memory = with_particle s.memory q.particles v }
-particle_taken NoParticle s = spoiled s
+particle_taken None s = spoiled s
 
 -- the line with index 0 is a `w` line; a later one is an `r` line, if no `p` line came before it, or a `p` line
 unfoldable pub line_ended : State → State

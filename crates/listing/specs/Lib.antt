@@ -1,6 +1,7 @@
 -- What the contracts of `src/` cite.
 pub mod Bench
 pub mod Feeding
+pub mod Held
 pub mod Lines
 pub mod Listing
 pub mod Steps

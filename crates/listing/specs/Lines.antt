@@ -1,11 +1,9 @@
 -- Document 01, "The bench listing": a line is a letter and fields with tabs before them; floats are 8 uppercase hex digits of their bits, other numbers are plain decimal below
 -- 2^64, no leading zeros. Definitions, and what is proved of them.
 -- Assumes nothing.
-use Rattle.std.specs.Prelude.{◌≡◌, cond, List, [], ◌∷◌, ◌++◌, ℕ, ◌^◌, ◌<◌, take, drop, eqb}
+use Rattle.std.specs.Prelude.{◌≡◌, cond, List, [], ◌∷◌, ◌++◌, ℕ, ◌^◌, ◌<◌, take, drop, eqb, None, Option, Some}
 use Rattle.fields.specs.Read.{before, hex_of, decimal_of}
 use Rattle.fields.specs.Write.{digits_of, text_of}
-use Rattle.fields.specs.declared.Number.{Number}
-use Rattle.fields.specs.declared.Number.TheVariants.{Is, Bad}
 
 abbrev pub tab : ℕ
 tab = 9
@@ -31,7 +29,7 @@ unfoldable pub field_text : ℕ → ℕ → List ℕ
 field_text kind v = cond (eqb kind float) (digits_of 16 8 v) (text_of v)
 
 -- how one is read
-unfoldable pub field_of : ℕ → List ℕ → Number
+unfoldable pub field_of : ℕ → List ℕ → Option ℕ
 field_of kind text = cond (eqb kind float) (hex_of 8 text) (decimal_of text)
 
 -- ---- a line: its head and the kinds of its fields
@@ -55,29 +53,28 @@ ended_text head kinds values = line_text head kinds values ++ (line_feed ∷ [])
 
 -- ---- how a line is read
 
--- the values of the fields, or that the line is none of its kind
-pub data Values : Type 0 where
-  are : List ℕ → Values
-  unread : Values
+-- the values of the fields; None where the line is none of its kind
+abbrev pub Values : Type 0
+Values = Option (List ℕ)
 
 -- a value ahead of others
-abbrev pub with : Number → Values → Values
-with (Is v) (are vs) = are (v ∷ vs)
-with (Is v) unread = unread
-with Bad rest = unread
+abbrev pub with : Option ℕ → Values → Values
+with (Some v) (Some vs) = Some (v ∷ vs)
+with (Some v) None = None
+with None rest = None
 
 -- exactly the fields of the kinds, each from behind its tab up to the next one
 unfoldable pub fields_of : List ℕ → List ℕ → Values
-fields_of [] [] = are []
-fields_of [] (x ∷ text) = unread
-fields_of (kind ∷ kinds) [] = unread
+fields_of [] [] = Some []
+fields_of [] (x ∷ text) = None
+fields_of (kind ∷ kinds) [] = None
 fields_of (kind ∷ kinds) (x ∷ text) =
-    cond (eqb x tab) (with (field_of kind (take (before tab text) text)) (fields_of kinds (drop (before tab text) text))) unread
+    cond (eqb x tab) (with (field_of kind (take (before tab text) text)) (fields_of kinds (drop (before tab text) text))) None
 
 -- a line that begins with the letter
 unfoldable pub line_of : ℕ → List ℕ → List ℕ → Values
-line_of letter kinds [] = unread
-line_of letter kinds (x ∷ text) = cond (eqb x letter) (fields_of kinds text) unread
+line_of letter kinds [] = None
+line_of letter kinds (x ∷ text) = cond (eqb x letter) (fields_of kinds text) None
 
 -- ---- what is proved: readable is to be equal to the printed form of some values
 
@@ -90,6 +87,6 @@ Fit (kind ∷ kinds) (v ∷ vs) = (v < limit kind) × Fit kinds vs
 
 pub record Laws : Type 0 where
   -- what is read are values whose printed form the line is
-  pub sound : (letter : ℕ) (kinds text values : List ℕ) → line_of letter kinds text ≡ are values → Fit kinds values × (text ≡ line_text (letter ∷ []) kinds values)
+  pub sound : (letter : ℕ) (kinds text values : List ℕ) → line_of letter kinds text ≡ Some values → Fit kinds values × (text ≡ line_text (letter ∷ []) kinds values)
   -- and every printed form is read, to its values
-  pub complete : (letter : ℕ) (kinds values : List ℕ) → Fit kinds values → line_of letter kinds (line_text (letter ∷ []) kinds values) ≡ are values
+  pub complete : (letter : ℕ) (kinds values : List ℕ) → Fit kinds values → line_of letter kinds (line_text (letter ∷ []) kinds values) ≡ Some values

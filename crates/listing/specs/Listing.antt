@@ -1,8 +1,8 @@
 -- Document 01, "The bench listing": lines, each ended by a line feed: one `w`, then `r`, then `p`; all else is unreadable (empty input: line 0). Definitions, and what is proved of
 -- them.
 -- Assumes nothing.
-use Rattle.std.specs.Prelude.{◌≡◌, Bool, true, false, cond, List, [], ◌∷◌, ◌++◌, ℕ, suc, eqb}
-use Rattle.listing.specs.Lines.{float, decimal, line_feed, ended_text, Values, are, unread, line_of, Fit}
+use Rattle.std.specs.Prelude.{◌≡◌, Bool, true, false, cond, List, [], ◌∷◌, ◌++◌, ℕ, suc, eqb, Err, None, Ok, Option, Result, Some}
+use Rattle.listing.specs.Lines.{float, decimal, line_feed, ended_text, Values, line_of, Fit}
 
 -- ---- the lines that are read, by their letters and the kinds of their fields
 
@@ -49,34 +49,29 @@ listing_text l = ended_text (w ∷ []) settings_kinds l.settings ++ (lines_text 
 -- ---- how a text is read
 
 -- a listing, or the index of the line that cannot be read
-pub data Read : Type 0 where
-  reads : Listing → Read
-  unreadable : ℕ → Read
+abbrev pub Read : Type 0
+Read = Result Listing ℕ
 
 abbrev pub is_none : List (List ℕ) → Bool
 is_none [] = true
 is_none (x ∷ xs) = false
 
--- a line more, where it is one that may come: what the lines then say, or that it cannot be read
-pub data Taken : Type 0 where
-  taken : Listing → Taken
-  refused : Taken
+-- a line more, where it is one that may come: what the lines then say; None where it cannot be read
+abbrev pub with_settings : Values → Listing → Option Listing
+with_settings (Some vs) l = Some (record { settings = vs; regions = l.regions; particles = l.particles })
+with_settings None l = None
 
-abbrev pub with_settings : Values → Listing → Taken
-with_settings (are vs) l = taken (record { settings = vs; regions = l.regions; particles = l.particles })
-with_settings unread l = refused
-
-abbrev pub with_particle : Values → Listing → Taken
-with_particle (are vs) l = taken (record { settings = l.settings; regions = l.regions; particles = l.particles ++ (vs ∷ []) })
-with_particle unread l = refused
+abbrev pub with_particle : Values → Listing → Option Listing
+with_particle (Some vs) l = Some (record { settings = l.settings; regions = l.regions; particles = l.particles ++ (vs ∷ []) })
+with_particle None l = None
 
 -- a region where the line is one, and else what the line is besides
-abbrev pub with_region : Values → Listing → Taken → Taken
-with_region (are vs) l other = taken (record { settings = l.settings; regions = l.regions ++ (vs ∷ []); particles = l.particles })
-with_region unread l other = other
+abbrev pub with_region : Values → Listing → Option Listing → Option Listing
+with_region (Some vs) l other = Some (record { settings = l.settings; regions = l.regions ++ (vs ∷ []); particles = l.particles })
+with_region None l other = other
 
 -- the line with index 0 is a `w` line; a later one is an `r` line, if no `p` line came before it, or a `p` line
-unfoldable pub line_taken : ℕ → Listing → List ℕ → Taken
+unfoldable pub line_taken : ℕ → Listing → List ℕ → Option Listing
 line_taken k l line =
     let particle = with_particle (line_of p particle_kinds line) l in
     cond (eqb k 0) (with_settings (line_of w settings_kinds line) l)
@@ -85,13 +80,13 @@ line_taken k l line =
 -- The text from within the line with index k on: `line` is what stands of that line already, l what the lines before it say. A last line without its line feed cannot be read;
 -- nor can an empty text.
 abbrev pub ended : ℕ → Listing → List ℕ → Read
-ended k l [] = cond (eqb k 0) (unreadable 0) (reads l)
-ended k l (x ∷ line) = unreadable k
+ended k l [] = cond (eqb k 0) (Err 0) (Ok l)
+ended k l (x ∷ line) = Err k
 
 -- what the text behind a line says, unless that line could not be taken
-abbrev pub onward : ℕ → Taken → (Listing → Read) → Read
-onward k (taken l) rest = rest l
-onward k refused rest = unreadable k
+abbrev pub onward : ℕ → Option Listing → (Listing → Read) → Read
+onward k (Some l) rest = rest l
+onward k None rest = Err k
 
 unfoldable pub read_from : ℕ → Listing → List ℕ → List ℕ → Read
 read_from k l line [] = ended k l line
@@ -113,5 +108,5 @@ pub record Fits (l : Listing) : Type 0 where
   pub particles : AllFit particle_kinds l.particles
 
 pub record Laws : Type 0 where
-  pub sound : (text : List ℕ) (l : Listing) → read_listing text ≡ reads l → Fits l × (text ≡ listing_text l)
-  pub complete : (l : Listing) → Fits l → read_listing (listing_text l) ≡ reads l
+  pub sound : (text : List ℕ) (l : Listing) → read_listing text ≡ Ok l → Fits l × (text ≡ listing_text l)
+  pub complete : (l : Listing) → Fits l → read_listing (listing_text l) ≡ Ok l

@@ -1,5 +1,5 @@
 -- Document 01's example, from text to text, and lines that are read and that are not, by computing the definitions. Computing goes through packing's definitions. Assumes nothing.
-use Rattle.std.specs.Prelude.{List, [], ◌∷◌, ◌++◌, map, ◌≡◌, refl, ℕ}
+use Rattle.std.specs.Prelude.{List, [], ◌∷◌, ◌++◌, map, ◌≡◌, refl, ℕ, None, Some}
 use Rattle.std.specs.Float.Ieee.{neg, lt, le, ne, eq, round, to_unsigned, add, sub, mul, div, of_bits, to_bits, of_int}
 use Rattle.packing.specs.Mask.{coord, place, count, coords, packed, sums, sum_of}
 use Rattle.packing.specs.Ids.{dim2, packed_id, coordinates, sum, region, number, from_fours, to_fours, cell_of, colour, packed_shifts, stencil_of}
@@ -22,7 +22,7 @@ use Rattle.scatter.specs.Scatter.{shift_hits, particle_hits, range_hits, region_
 use Rattle.scatter.specs.Hit.{brought, hit_by, hit_node, changed}
 use Rattle.fields.specs.Read as Read
 use Rattle.fields.specs.Write.{glyph_of, digits_of, places_of, text_of}
-use Rattle.listing.specs.Lines.{field_text, field_of, fields_text, are, unread, fields_of, line_of}
+use Rattle.listing.specs.Lines.{field_text, field_of, fields_text, fields_of, line_of}
 use Rattle.listing.specs.Listing.{w, settings_kinds, r, region_kinds, line_taken, read_from, read_listing}
 use Rattle.listing.specs.Bench.{particle_of, node_text, shown, nodes_text, ok_text, no_text, listed, bench_check, bench_nodes, called, answer_to, answer}
 
@@ -94,14 +94,14 @@ pub record Examples : Type 0 where
   pub late : answer (settings ++ (particle one ++ one_region)) ≡ no eleven 50
   pub returned : answer (settings ++ (114 ∷ 9 ∷ 48 ∷ 9 ∷ 48 ∷ 9 ∷ 49 ∷ 13 ∷ feed)) ≡ no eleven 49
   -- a line's values; a lower case digit, seven digits, nine, a tab at the end, a field too few
-  pub line : line_of w settings_kinds (119 ∷ one ++ (six ++ (zero ++ sixty_four))) ≡ are (0x3f800000 ∷ 0x40c00000 ∷ 0 ∷ 0x42800000 ∷ [])
+  pub line : line_of w settings_kinds (119 ∷ one ++ (six ++ (zero ++ sixty_four))) ≡ Some (0x3f800000 ∷ 0x40c00000 ∷ 0 ∷ 0x42800000 ∷ [])
   pub floats : map (λ (last : List ℕ). line_of w settings_kinds (119 ∷ one ++ (one ++ (zero ++ last))))
       ((9 ∷ 51 ∷ 102 ∷ 56 ∷ 48 ∷ 48 ∷ 48 ∷ 48 ∷ 48 ∷ []) ∷ (9 ∷ 48 ∷ 48 ∷ 48 ∷ 48 ∷ 48 ∷ 48 ∷ 48 ∷ []) ∷ (zero ++ (48 ∷ [])) ∷ (zero ++ (9 ∷ [])) ∷ [] ∷ [])
-      ≡ unread ∷ unread ∷ unread ∷ unread ∷ unread ∷ []
+      ≡ None ∷ None ∷ None ∷ None ∷ None ∷ []
   -- 0, 7, 10, 2^64 - 1; 2^64, a zero in front, nothing, a sign
   pub decimals : map (λ (last : List ℕ). line_of r region_kinds (114 ∷ 9 ∷ 48 ∷ 9 ∷ 48 ∷ 9 ∷ last))
       ((48 ∷ []) ∷ (55 ∷ []) ∷ (49 ∷ 48 ∷ []) ∷ (49 ∷ 56 ∷ 52 ∷ 52 ∷ 54 ∷ 55 ∷ 52 ∷ 52 ∷ 48 ∷ 55 ∷ 51 ∷ 55 ∷ 48 ∷ 57 ∷ 53 ∷ 53 ∷ 49 ∷ 54 ∷ 49 ∷ 53 ∷ []) ∷ (49 ∷ 56 ∷ 52 ∷ 52 ∷ 54 ∷ 55 ∷ 52 ∷ 52 ∷ 48 ∷ 55 ∷ 51 ∷ 55 ∷ 48 ∷ 57 ∷ 53 ∷ 53 ∷ 49 ∷ 54 ∷ 49 ∷ 54 ∷ []) ∷ (48 ∷ 55 ∷ []) ∷ [] ∷ (43 ∷ 55 ∷ []) ∷ [])
-      ≡ are (0 ∷ 0 ∷ 0 ∷ []) ∷ are (0 ∷ 0 ∷ 7 ∷ []) ∷ are (0 ∷ 0 ∷ 10 ∷ []) ∷ are (0 ∷ 0 ∷ 18446744073709551615 ∷ []) ∷ unread ∷ unread ∷ unread ∷ unread ∷ []
+      ≡ Some (0 ∷ 0 ∷ 0 ∷ []) ∷ Some (0 ∷ 0 ∷ 7 ∷ []) ∷ Some (0 ∷ 0 ∷ 10 ∷ []) ∷ Some (0 ∷ 0 ∷ 18446744073709551615 ∷ []) ∷ None ∷ None ∷ None ∷ None ∷ []
 
 pub examples : Examples
 unfolding answer answer_to called bench_check bench_nodes listed shown nodes_text node_text ok_text no_text particle_of read_listing read_from line_taken line_of fields_of field_of fields_text field_text Read.hex_of Read.decimal_of Read.number_of Read.bounded Read.onward Read.digit_of Read.before text_of places_of digits_of glyph_of scattered scatter_hits cleared run hit nodes records node_at changed hit_node hit_by brought dir_to_associated_grid_node precompute_weights eval_all inv_d inverse ne eq neg add sub mul of_int scatter_check checked placed judged first_particle out_of_regions bad_flag not_finite on_axis off_grid out_of_region unlisted particle_at finite good_width good_step bad_region region_ids before misplaced cover Refusals.first_of cell_associated_to_point region_associated_to_point lookup searched left narrowed halved shift_hits particle_hits range_hits region_hits coloured_hits colour_hits gather node_place packed_id packed place sum sum_of sums coords coord coordinates count dim2 region number from_fours colour packed_shifts stencil_of round_away round to_unsigned lt le div of_bits to_bits cell_of to_fours

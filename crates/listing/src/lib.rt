@@ -13,17 +13,17 @@ ghost use Rattle.listing.specs.Bench.{answer};
 
 use fields::out::put_bytes;
 use page::{PAGE_BYTES, finish};
-use reader::{feed, start};
+use reader::{KEPT_FLOATS, KEPT_RANGE_WORDS, KEPT_REGIONS, KEPT_WORDS, LINE_BYTES, feed, start};
 
 // The answer to a whole text, at the front of out, and how long it is; where out is too short, nothing is written, and 0 is answered.
 pub fn bench(text: &[u8], out: &mut [u8]) -> usize
     ensures { (result ≡ place_after out.old 0 (answer text.now)) × (out.new ≡ put_at out.old 0 (answer text.now)) }
 {
-    let mut line = [0u8; 256];
-    let mut ids = [0u64; 64];
-    let mut ranges = [0u64; 128];
-    let mut pf = [0.0f32; 6656];
-    let mut pw = [0u32; 1024];
+    let mut line = [0u8; LINE_BYTES];
+    let mut ids = [0u64; KEPT_REGIONS];
+    let mut ranges = [0u64; KEPT_RANGE_WORDS];
+    let mut pf = [0.0f32; KEPT_FLOATS];
+    let mut pw = [0u32; KEPT_WORDS];
     let r = feed(
         start(),
         text,

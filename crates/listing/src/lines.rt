@@ -1,81 +1,51 @@
 // A line by the kinds of its fields: read, and printed. The kinds are letters, `f` for a float, by its bits, and `d` for a plain decimal.
+// Letters and no enum of kinds: `put_line` is public and takes any byte for a kind, every byte but `f` as a plain decimal.
 ghost use Rattle.std.specs.Prelude.{◌≡◌, ◌∷◌, ◌+◌, ◌≤◌, length, get_or, leb};
 ghost use Rattle.fields.specs.Read.{read_in};
 ghost use Rattle.fields.specs.Write.{put_at, place_after};
 ghost use Rattle.listing.specs.Lines.{tab, field_text, fields_text, ended_text, field_of, line_of};
-ghost use Rattle.listing.specs.Steps.{step_of, values_in};
+ghost use Rattle.listing.specs.Steps.{step_of};
 
 use fields::lines::begins;
 use fields::out::{places, put_byte, put_bytes, put_decimal, put_hex};
-use fields::{Number, decimal, find, hex};
-
-// No line that is read has more fields.
-pub(crate) const MOST_FIELDS: usize = 18;
-
-// The values of a line's fields, where it is one.
-#[derive(Clone, Copy)]
-pub(crate) struct Fields {
-    pub good: bool,
-    pub values: [u64; MOST_FIELDS],
-}
-
-// A field's value and where it ends.
-#[derive(Clone, Copy)]
-enum Step {
-    Value(u64, usize),
-    NoField,
-}
+use fields::{decimal, find, hex};
 
 // The values of the line that text is, without its line feed, if it begins with the letter and has just these fields.
-pub(crate) fn read_line(text: &[u8], letter: u8, kinds: &[u8]) -> Fields
-    requires { length kinds.now ≤ 18 }
-    ensures { values_in result (length kinds.now) ≡ line_of letter kinds.now text.now }
+pub(crate) fn read_line<const N: usize>(
+    text: &[u8],
+    letter: u8,
+    kinds: &[u8; N],
+) -> Option<[u64; N]>
+    ensures { result ≡ line_of letter kinds.now text.now }
 {
-    let mut values = [0u64; MOST_FIELDS];
     if !begins(text, 0, text.len(), letter) {
-        return Fields {
-            good: false,
-            values: values,
-        };
+        return None;
     }
+    let mut values = [0u64; N];
     let mut at = 1;
-    let mut k = 0;
-    while k < kinds.len() {
-        let Step::Value(v, next) = read_field(text, at, kinds[k]) else {
-            return Fields {
-                good: false,
-                values: values,
-            };
-        };
+    for (k, &kind) in kinds.iter().enumerate() {
+        let (v, next) = read_field(text, at, kind)?;
         values[k] = v;
         at = next;
-        k += 1;
     }
-    Fields {
-        good: text.len() <= at,
-        values: values,
-    }
+    (text.len() <= at).then_some(values)
 }
 
-// The field behind the tab at `at`, up to the next one or the end.
-fn read_field(text: &[u8], at: usize, kind: u8) -> Step
+// The value of the field behind the tab at `at`, up to the next one or the end, and where it ends.
+fn read_field(text: &[u8], at: usize, kind: u8) -> Option<(u64, usize)>
     ensures { result ≡ step_of kind at text.now }
 {
-    if text.len() <= at {
-        return Step::NoField;
-    }
-    if text[at] != b'\t' {
-        return Step::NoField;
+    if text.len() <= at || text[at] != b'\t' {
+        return None;
     }
     let end = find(text, at + 1, text.len(), b'\t');
-    let Number::Is(v) = number_in(text, at + 1, end, kind) else {
-        return Step::NoField;
-    };
-    Step::Value(v, end)
+    let v = number_in(text, at + 1, end, kind)?;
+    Some((v, end))
 }
 
 // The number from one place up to another.
-fn number_in(text: &[u8], from: usize, to: usize, kind: u8) -> Number
+#[tactic(auto, using(std::proofs::lemmas::Bool::Decides::nat_tests), unfolding(crate::specs::Lines::field_of, fields::specs::Read::read_in))]
+fn number_in(text: &[u8], from: usize, to: usize, kind: u8) -> Option<u64>
     ensures { result ≡ read_in (field_of kind) from to text.now }
 {
     if kind == b'f' {
@@ -102,10 +72,7 @@ pub fn put_line(out: &mut [u8], at: usize, head: &[u8], kinds: &[u8], values: &[
 fn has_room(len: usize, at: usize, head: usize, kinds: &[u8], values: &[u64]) -> bool
     ensures { result ≡ leb (at + (head + (length (fields_text kinds.now values.now) + 1))) len }
 {
-    if len < at {
-        return false;
-    }
-    if len - at <= head {
+    if len < at || len - at <= head {
         return false;
     }
     fit(len - at - head - 1, kinds, values)
@@ -116,14 +83,12 @@ fn fit(room: usize, kinds: &[u8], values: &[u64]) -> bool
     ensures { result ≡ leb (length (fields_text kinds.now values.now)) room }
 {
     let mut left = room;
-    let mut k = 0;
-    while k < kinds.len() {
-        let need = field_length(kinds[k], value_at(values, k));
+    for (k, &kind) in kinds.iter().enumerate() {
+        let need = field_length(kind, value_at(values, k));
         if left <= need {
             return false;
         }
-        left = left - need - 1;
-        k += 1;
+        left -= need + 1;
     }
     true
 }
@@ -135,10 +100,8 @@ fn put_fields(out: &mut [u8], at: usize, kinds: &[u8], values: &[u64]) -> usize
         × (out.new ≡ put_at out.old at (fields_text kinds.now values.now)) }
 {
     let mut place = at;
-    let mut k = 0;
-    while k < kinds.len() {
-        place = put_field(out, place, kinds[k], value_at(values, k));
-        k += 1;
+    for (k, &kind) in kinds.iter().enumerate() {
+        place = put_field(out, place, kind, value_at(values, k));
     }
     place
 }
@@ -155,6 +118,7 @@ fn put_field(out: &mut [u8], at: usize, kind: u8, v: u64) -> usize
     put_decimal(out, behind_tab, v)
 }
 
+#[tactic(auto, using(std::proofs::lemmas::Bool::Decides::nat_tests, fields::proofs::Writing::length_digits), unfolding(crate::specs::Lines::field_text, fields::specs::Write::text_of))]
 fn field_length(kind: u8, v: u64) -> usize
     ensures { result ≡ length (field_text kind v) }
 {
@@ -167,8 +131,5 @@ fn field_length(kind: u8, v: u64) -> usize
 fn value_at(values: &[u64], k: usize) -> u64
     ensures { result ≡ get_or values.now k 0 }
 {
-    if k < values.len() {
-        return values[k];
-    }
-    0
+    values.get(k).copied().unwrap_or(0)
 }

@@ -1,20 +1,13 @@
 // The reader: a state that is fed the text in pieces, and keeps 64 regions and 256 particles of it.
-ghost use Rattle.std.specs.Prelude.{◌≡◌, List, ℕ, ◌-◌, ◌*◌, ◌^◌, ◌<◌, length, take};
-ghost use Rattle.laws.specs.Store.{Store, store};
-ghost use Rattle.grid.specs.Table.{words_per_range};
-ghost use Rattle.particles.specs.Particles.{floats_per_particle, words_per_particle};
-ghost use Rattle.listing.specs.Bench.{kept_regions, kept_particles};
-ghost use Rattle.listing.specs.declared.records.RegionLine.TheVariants.{IsRegion};
-ghost use Rattle.listing.specs.Feeding.{Memory, State, state, first, pushed, spoiled, advanced, index_after, one_more, settings_taken, region_taken, with_region, particle_taken, with_particle, line_ended, fed_byte, fed};
+ghost use Rattle.std.specs.Prelude.{◌≡◌, Some, ◌-◌, ◌*◌, ◌^◌, ◌<◌, length, take};
+ghost use Rattle.listing.specs.Feeding.{Memory, State, state, first, pushed, spoiled, advanced, one_more, settings_taken, region_taken, with_region, particle_taken, with_particle, line_ended, fed_byte, fed};
+ghost use Rattle.listing.specs.Held.{held, left};
 
-use crate::records::{
-    ParticleLine, Region, RegionLine, Settings, SettingsLine, particle_line, region_line,
-    settings_line,
-};
+use crate::records::{Region, Settings, particle_line, region_line, settings_line};
 use grid::inner::RANGE_WORDS;
 use numeric::dim2::Vector;
 use particles::inner::write_particle;
-use particles::particle::Particle;
+use particles::particle::{PARTICLE_FLOATS, PARTICLE_WORDS, Particle};
 
 pub const LINE_BYTES: usize = 256;
 
@@ -22,7 +15,15 @@ pub const KEPT_REGIONS: usize = 64;
 
 pub const KEPT_PARTICLES: usize = 256;
 
+// How long the memory of the records is.
+pub(crate) const KEPT_RANGE_WORDS: usize = KEPT_REGIONS * RANGE_WORDS;
+
+pub(crate) const KEPT_FLOATS: usize = KEPT_PARTICLES * PARTICLE_FLOATS;
+
+pub(crate) const KEPT_WORDS: usize = KEPT_PARTICLES * PARTICLE_WORDS;
+
 // How many bytes of the line that has not ended are kept, and its index; whether every line before it could be read; what they say. The records themselves are in lent memory.
+// A flag, and an index that is 0 at first, and no enum of states: the fields are public, and those who hold a reader may read and make them.
 #[derive(Clone, Copy)]
 pub struct Reader {
     pub have: usize,
@@ -31,6 +32,16 @@ pub struct Reader {
     pub settings: Settings,
     pub regions: usize,
     pub particles: usize,
+}
+
+// The memory that a reader is lent.
+#[derive(Drop)]
+struct Lent<'a> {
+    line: &'a mut [u8; LINE_BYTES],
+    ids: &'a mut [u64; KEPT_REGIONS],
+    ranges: &'a mut [u64; KEPT_RANGE_WORDS],
+    pf: &'a mut [f32; KEPT_FLOATS],
+    pw: &'a mut [u32; KEPT_WORDS],
 }
 
 // Nothing is read yet.
@@ -65,10 +76,15 @@ pub fn feed(
         ≡ fed (state reader line.old ids.old ranges.old pf.old pw.old) text.now }
 {
     let mut q = reader;
-    let mut k = 0;
-    while k < text.len() {
-        q = feed_byte(q, text[k], line, ids, ranges, pf, pw);
-        k += 1;
+    for &b in text {
+        let m = Lent {
+            line,
+            ids,
+            ranges,
+            pf,
+            pw,
+        };
+        q = feed_byte(q, b, m);
     }
     q
 }
@@ -77,187 +93,128 @@ pub fn feed(
 fn broken(reader: Reader) -> Reader
     ensures { (m : Memory) → record { reader = result; memory = m } ≡ spoiled (record { reader = reader; memory = m }) }
 {
-    let settings = reader.settings;
     Reader {
-        have: reader.have,
-        index: reader.index,
         readable: false,
-        settings: settings,
-        regions: reader.regions,
-        particles: reader.particles,
+        ..reader
     }
 }
 
-fn feed_byte(
-    reader: Reader,
-    b: u8,
-    line: &mut [u8; 256],
-    ids: &mut [u64; 64],
-    ranges: &mut [u64; 128],
-    pf: &mut [f32; 6656],
-    pw: &mut [u32; 1024],
-) -> Reader
-    ensures { state result line.new ids.new ranges.new pf.new pw.new
-        ≡ fed_byte (state reader line.old ids.old ranges.old pf.old pw.old) b }
+fn feed_byte(reader: Reader, b: u8, m: Lent) -> Reader
+    ensures { record { reader = result; memory = left m.exit } ≡ fed_byte (record { reader = reader; memory = held m.entry }) b }
 {
     if !reader.readable {
         return reader;
     }
     if b == b'\n' {
-        return end_line(reader, line, ids, ranges, pf, pw);
+        return end_line(reader, m);
     }
-    push(reader, b, line)
+    push(reader, b, m)
 }
 
 // A byte more of the line; beyond those that are kept no line can be read.
-fn push(reader: Reader, b: u8, line: &mut [u8; 256]) -> Reader
-    ensures { (ids ranges : List ℕ) (particles : Store) → record { reader = result; memory = record { line = line.exit.now; ids = ids; ranges = ranges; particles = particles } }
-        ≡ pushed (record { reader = reader; memory = record { line = line.entry.now; ids = ids; ranges = ranges; particles = particles } }) b }
+#[tactic(auto, using(std::proofs::lemmas::Bool::Decides::nat_tests), unfolding(crate::specs::Feeding::pushed))]
+fn push(reader: Reader, b: u8, m: Lent) -> Reader
+    ensures { record { reader = result; memory = left m.exit } ≡ pushed (record { reader = reader; memory = held m.entry }) b }
 {
-    let have = reader.have;
-    if LINE_BYTES <= have {
+    if LINE_BYTES <= reader.have {
         return reader;
     }
-    line[have] = b;
-    let settings = reader.settings;
+    m.line[reader.have] = b;
     Reader {
-        have: have + 1,
-        index: reader.index,
-        readable: reader.readable,
-        settings: settings,
-        regions: reader.regions,
-        particles: reader.particles,
+        have: reader.have + 1,
+        ..reader
     }
 }
 
 // The line has ended: the first is a `w` line, a later one an `r` or a `p` line.
-fn end_line(
-    reader: Reader,
-    line: &[u8],
-    ids: &mut [u64],
-    ranges: &mut [u64],
-    pf: &mut [f32],
-    pw: &mut [u32],
-) -> Reader
-    requires { (length ids.old ≡ kept_regions) × (length ranges.old ≡ kept_regions * words_per_range) × (length pf.old ≡ kept_particles * floats_per_particle) × (length pw.old ≡ kept_particles * words_per_particle) }
-    ensures { state result line.now ids.new ranges.new pf.new pw.new
-        ≡ line_ended (state reader line.now ids.old ranges.old pf.old pw.old) }
+fn end_line(reader: Reader, m: Lent) -> Reader
+    ensures { record { reader = result; memory = left m.exit } ≡ line_ended (record { reader = reader; memory = held m.entry }) }
 {
-    let text = front(line, reader.have);
+    let text = front(m.line, reader.have);
     if reader.index == 0 {
         return take_settings(reader, settings_line(text));
     }
-    if reader.particles == 0 {
-        let RegionLine::IsRegion(region) = region_line(text) else {
-            return take_particle(reader, particle_line(text), pf, pw);
-        };
-        return take_region(reader, region, ids, ranges);
+    if reader.particles == 0
+        && let Some(region) = region_line(text)
+    {
+        return take_region(reader, region, m);
     }
-    take_particle(reader, particle_line(text), pf, pw)
+    take_particle(reader, particle_line(text), m)
 }
 
 // The first n entries, or all there are.
 fn front(s: &[u8], n: usize) -> &[u8]
     ensures { result.now ≡ take n s.now }
 {
-    if n < s.len() {
-        return &s[..n];
-    }
-    s
+    s.get(..n).unwrap_or(s)
 }
 
-fn take_settings(reader: Reader, line: SettingsLine) -> Reader
+fn take_settings(reader: Reader, line: Option<Settings>) -> Reader
     ensures { (m : Memory) → record { reader = result; memory = m } ≡ settings_taken line (record { reader = reader; memory = m }) }
 {
-    let SettingsLine::AreSettings(settings) = line else {
-        return broken(reader);
-    };
-    advance(reader, settings, reader.regions, reader.particles)
+    match line {
+        Some(settings) => advance(Reader { settings, ..reader }),
+        None => broken(reader),
+    }
 }
 
 // A region in its place, where one is left, and on to the next line.
-fn take_region(reader: Reader, v: Region, ids: &mut [u64], ranges: &mut [u64]) -> Reader
-    requires { (length ids.old ≡ kept_regions) × (length ranges.old ≡ kept_regions * words_per_range) }
-    ensures { (line : List ℕ) (particles : Store) (other : State) → record { reader = result; memory = record { line = line; ids = ids.new; ranges = ranges.new; particles = particles } }
-        ≡ region_taken (IsRegion v) (record { reader = reader; memory = record { line = line; ids = ids.old; ranges = ranges.old; particles = particles } }) other }
+fn take_region(reader: Reader, v: Region, m: Lent) -> Reader
+    ensures { (other : State) → record { reader = result; memory = left m.exit } ≡ region_taken (Some v) (record { reader = reader; memory = held m.entry }) other }
 {
-    let settings = reader.settings;
-    let n = reader.regions;
-    put_region(n, v, ids, ranges);
-    advance(
-        reader,
-        settings,
-        one_more(KEPT_REGIONS, n),
-        reader.particles,
-    )
+    put_region(reader.regions, v, m);
+    advance(Reader {
+        regions: one_more(KEPT_REGIONS, reader.regions),
+        ..reader
+    })
 }
 
-fn put_region(n: usize, v: Region, ids: &mut [u64], ranges: &mut [u64])
-    requires { (length ids.old ≡ kept_regions) × (length ranges.old ≡ kept_regions * words_per_range) }
-    ensures { (line : List ℕ) (particles : Store) → record { line = line; ids = ids.new; ranges = ranges.new; particles = particles }
-        ≡ with_region (record { line = line; ids = ids.old; ranges = ranges.old; particles = particles }) n v }
+#[tactic(auto, using(std::proofs::lemmas::Bool::Decides::nat_tests), unfolding(crate::specs::Feeding::with_region))]
+fn put_region(n: usize, v: Region, m: Lent)
+    ensures { left m.exit ≡ with_region (held m.entry) n v }
 {
     if KEPT_REGIONS <= n {
         return;
     }
-    ids[n] = v.id;
-    ranges[n * RANGE_WORDS] = v.start;
-    ranges[n * RANGE_WORDS + 1] = v.count;
+    m.ids[n] = v.id;
+    m.ranges[n * RANGE_WORDS] = v.start;
+    m.ranges[n * RANGE_WORDS + 1] = v.count;
 }
 
 // A particle in its place, where one is left, and on to the next line; or the line cannot be read.
-fn take_particle(reader: Reader, line: ParticleLine, pf: &mut [f32], pw: &mut [u32]) -> Reader
-    requires { (length pf.old ≡ kept_particles * floats_per_particle) × (length pw.old ≡ kept_particles * words_per_particle) }
-    ensures { (text ids ranges : List ℕ) → record { reader = result; memory = record { line = text; ids = ids; ranges = ranges; particles = store pf.new pw.new } }
-        ≡ particle_taken line (record { reader = reader; memory = record { line = text; ids = ids; ranges = ranges; particles = store pf.old pw.old } }) }
+fn take_particle(reader: Reader, line: Option<Particle>, m: Lent) -> Reader
+    ensures { record { reader = result; memory = left m.exit } ≡ particle_taken line (record { reader = reader; memory = held m.entry }) }
 {
-    let ParticleLine::IsParticle(v) = line else {
+    let Some(v) = line else {
         return broken(reader);
     };
-    let settings = reader.settings;
-    let n = reader.particles;
-    put_particle(n, v, pf, pw);
-    advance(
-        reader,
-        settings,
-        reader.regions,
-        one_more(KEPT_PARTICLES, n),
-    )
+    put_particle(reader.particles, v, m);
+    advance(Reader {
+        particles: one_more(KEPT_PARTICLES, reader.particles),
+        ..reader
+    })
 }
 
-fn put_particle(n: usize, v: Particle, pf: &mut [f32], pw: &mut [u32])
-    requires { (length pf.old ≡ kept_particles * floats_per_particle) × (length pw.old ≡ kept_particles * words_per_particle) }
-    ensures { (line ids ranges : List ℕ) → record { line = line; ids = ids; ranges = ranges; particles = store pf.new pw.new }
-        ≡ with_particle (record { line = line; ids = ids; ranges = ranges; particles = store pf.old pw.old }) n v }
+#[tactic(auto, using(std::proofs::lemmas::Bool::Decides::nat_tests), unfolding(crate::specs::Feeding::with_particle))]
+fn put_particle(n: usize, v: Particle, m: Lent)
+    ensures { left m.exit ≡ with_particle (held m.entry) n v }
 {
     if KEPT_PARTICLES <= n {
         return;
     }
+    let Lent { pf, pw, .. } = m;
     write_particle(pf, pw, n, v);
 }
 
-// On to the next line.
-fn advance(reader: Reader, settings: Settings, regions: usize, particles: usize) -> Reader
-    ensures { result ≡ advanced reader settings regions particles }
+// On to the next line, whose index is one more, as far as a u64 tells: no text has so many lines.
+fn advance(reader: Reader) -> Reader
+    ensures { result ≡ advanced reader reader.settings reader.regions reader.particles }
 {
     Reader {
         have: 0,
-        index: next_index(reader.index),
-        readable: reader.readable,
-        settings: settings,
-        regions: regions,
-        particles: particles,
+        index: reader.index.saturating_add(1),
+        ..reader
     }
-}
-
-// One more, as far as a u64 tells: no text has so many lines.
-fn next_index(k: u64) -> u64
-    ensures { result ≡ index_after k }
-{
-    if k < u64::MAX {
-        return k + 1;
-    }
-    k
 }
 
 // One record more, of which so many are kept; beyond them it is only told that there are more.
@@ -265,8 +222,5 @@ fn one_more(kept: usize, n: usize) -> usize
     requires { kept < 2 ^ 64 - 1 }
     ensures { result ≡ one_more kept n }
 {
-    if n < kept {
-        return n + 1;
-    }
-    kept + 1
+    n.min(kept) + 1
 }

@@ -5,7 +5,7 @@ ghost use Rattle.listing.specs.Feeding.{settings_read, region_read, particle_rea
 ghost use Rattle.listing.specs.Lines.{line_of};
 ghost use Rattle.listing.specs.Listing.{w, settings_kinds, r, region_kinds, p, particle_kinds};
 
-use crate::lines::{MOST_FIELDS, read_line};
+use crate::lines::read_line;
 use numeric::dim2::{Matrix, Point, Vector};
 use particles::particle::Particle;
 
@@ -25,68 +25,39 @@ pub struct Region {
     pub count: u64,
 }
 
-#[derive(Clone, Copy)]
-pub enum SettingsLine {
-    AreSettings(Settings),
-    NoSettings,
-}
-
-#[derive(Clone, Copy)]
-pub enum RegionLine {
-    IsRegion(Region),
-    NoRegion,
-}
-
-#[derive(Clone, Copy)]
-pub enum ParticleLine {
-    IsParticle(Particle),
-    NoParticle,
-}
-
 // Each reads one line, without its line feed.
-pub fn settings_line(text: &[u8]) -> SettingsLine
+pub fn settings_line(text: &[u8]) -> Option<Settings>
     ensures { result ≡ settings_read (line_of w settings_kinds text.now) }
 {
-    let f = read_line(text, b'w', b"ffff");
-    if !f.good {
-        return SettingsLine::NoSettings;
-    }
-    let v = f.values;
-    SettingsLine::AreSettings(Settings {
+    let v = read_line(text, b'w', b"ffff")?;
+    Some(Settings {
         cell_width: float(v[0]),
         dt: float(v[1]),
         gravity: vector(v[2], v[3]),
     })
 }
 
-pub fn region_line(text: &[u8]) -> RegionLine
+pub fn region_line(text: &[u8]) -> Option<Region>
     ensures { result ≡ region_read (line_of r region_kinds text.now) }
 {
-    let f = read_line(text, b'r', b"ddd");
-    if !f.good {
-        return RegionLine::NoRegion;
-    }
-    let v = f.values;
-    RegionLine::IsRegion(Region {
+    let v = read_line(text, b'r', b"ddd")?;
+    Some(Region {
         id: v[0],
         start: v[1],
         count: v[2],
     })
 }
 
-pub fn particle_line(text: &[u8]) -> ParticleLine
+pub fn particle_line(text: &[u8]) -> Option<Particle>
     ensures { result ≡ particle_read (line_of p particle_kinds text.now) }
 {
-    let f = read_line(text, b'p', b"fffffffffffffffffd");
-    if !f.good {
-        return ParticleLine::NoParticle;
-    }
-    let v = f.values;
-    ParticleLine::IsParticle(particle(v))
+    let v = read_line(text, b'p', b"fffffffffffffffffd")?;
+    Some(particle(v))
 }
 
-// The rest of the record is 0.
-fn particle(v: [u64; MOST_FIELDS]) -> Particle
+// The rest of the record is 0, and the fields are in the order of the line.
+#[tactic(auto, unfolding(crate::specs::Bench::particle_of))]
+fn particle(v: [u64; 18]) -> Particle
     ensures { result ≡ particle_of v }
 {
     Particle {
@@ -149,8 +120,5 @@ fn float(v: u64) -> f32
 fn flag(v: u64) -> u32
     ensures { result ≡ min v 2 }
 {
-    if 1 < v {
-        return 2;
-    }
-    v as u32
+    v.min(2) as u32
 }

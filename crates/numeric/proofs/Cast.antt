@@ -1,8 +1,7 @@
 -- What `to_u32` cites: the cast to a u32 from 2 ^ 32 on, between -1 and 2 ^ 32, and elsewhere. Assumes nothing.
-use Rattle.std.proofs.Common.{◌≡◌, ℕ, ◌+◌, ◌*◌, ◌/◌, ◌^◌, ◌<◌, ◌≤◌, Bool, true, false, ◌&&◌, ◌||◌, T, eqb, ltb, leb, ℤ, pos, sym, refl, ◌∙◌, true≢false, lt_irrefl, div-lt_iff_lt-mul, le-div_iff_mul-le, arith, lit<, eqb→eq, lt→ltb, ltb-false, ltb-true, eqb-true, le-leb, leb-false, leb-true}
-use mathlib.Core.Bool.{false≢true}
-use borrow.Author.Tests.{eqb-false, lt-leb}
-use lib.Ieee.{Float, nan, inf, fin, binary32, up, down, neg, lt, eq, le, of_bits, to_unsigned}
+use Rattle.std.proofs.lemmas.Bool.{false≢true, eqb-false, lt-leb}
+use Rattle.std.proofs.Common.{◌≡◌, ℕ, ◌+◌, ◌*◌, ◌/◌, ◌^◌, ◌<◌, ◌≤◌, Bool, true, false, ◌&&◌, ◌||◌, T, eqb, ltb, leb, ℤ, pos, sym, refl, ◌∙◌, true≢false, lt_irrefl, div-lt_iff_lt-mul, le-div_iff_mul-le, arith, lit<, eqb→eq, lt→ltb, ltb-false, ltb-true, eqb-true, le-leb, leb-false, leb-true, Float}
+use lib.Ieee.{nan, inf, fin, binary32, up, down, neg, lt, eq, le, of_bits, to_unsigned}
 use lib.Ieee.Fits.{down_pos, and_r}
 use Rattle.numeric.specs.Bits.{one}
 use Rattle.numeric.specs.Round.{cast_u32}

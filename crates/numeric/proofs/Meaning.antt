@@ -1,8 +1,8 @@
 -- `round_away` and `root_of` mean what document 01 says. Assumes nothing.
-use Rattle.std.proofs.Common.{◌≡◌, ℕ, ◌+◌, ◌-◌, ◌*◌, ◌/◌, ◌^◌, ◌<◌, ◌≤◌, Bool, true, false, not, T, ltb, leb, sym, ap, ◌∙◌, subst, le_trans, le_of_eq, le_refl, lt_of_lt_of_le, le_of_lt, zero-lt-suc, mul_assoc, div-lt_iff_lt-mul, add-mul, mul-le-mul, le_antisymm, mul-pos, one-mul, zero-mul, mul-one, div-mul-le_self, mul_left_comm, add-one-le, arith, lit≤, ltb→lt, leb→le, nltb→le, pow_pos, pow_mono, pow-add, shl_lt}
+use Rattle.std.proofs.Common.{◌≡◌, ℕ, ◌+◌, ◌-◌, ◌*◌, ◌/◌, ◌^◌, ◌<◌, ◌≤◌, Bool, true, false, not, T, ltb, leb, sym, ap, ◌∙◌, subst, le_trans, le_of_eq, le_refl, lt_of_lt_of_le, le_of_lt, zero-lt-suc, mul_assoc, div-lt_iff_lt-mul, add-mul, mul-le-mul, le_antisymm, mul-pos, one-mul, zero-mul, mul-one, div-mul-le_self, mul_left_comm, add-one-le, arith, lit≤, ltb→lt, leb→le, nltb→le, pow_pos, pow_mono, pow-add, shl_lt, Float}
 use native.Mathlib.Nat.{lt-div-mul-add}
 use lib.Dec.{nleb→lt}
-use lib.Ieee.{Float, nan, inf, fin, binary32, fits}
+use lib.Ieee.{nan, inf, fin, binary32, fits}
 use lib.Ieee.Fits.{round-fits}
 use lib.Ieee.Bits.{of_bits-to_bits, to_bits-of_bits}
 use lib.Ieee.Back.{round_whole, whole_unique}

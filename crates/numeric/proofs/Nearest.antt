@@ -1,8 +1,8 @@
 -- That `root_of x` is the f32 nearest to the root of x, and the only one: the middle of it and any other f32 lies beyond the root. Assumes nothing.
-use Rattle.std.proofs.Common.{◌≡◌, ℕ, zero, suc, ◌+◌, ◌-◌, ◌*◌, ◌/◌, ◌%◌, ◌^◌, ◌<◌, ◌≤◌, Bool, true, false, not, T, leb, ◌⊎◌, sym, ap, ◌∙◌, subst, inl, inr, le_trans, le_of_eq, le_refl, lt_of_lt_of_le, le_of_suc-le-suc, lt_of_le_of_lt, add-zero, le_of_lt, lt_irrefl, zero-lt-suc, mul_assoc, add-mul, eq-zero-or-pos, mul-le-mul, add_comm, mul-lt-mul_of_pos_right, mul-pos, lt_of_not-le, zero-mul, mul-one, not-le_of_lt, sub-le, add-one-le, arith, lit<, lit≤, leb→le, pow_pos, pow_mono, pow-add, shl_lt}
+use Rattle.std.proofs.Common.{◌≡◌, ℕ, zero, suc, ◌+◌, ◌-◌, ◌*◌, ◌/◌, ◌%◌, ◌^◌, ◌<◌, ◌≤◌, Bool, true, false, not, T, leb, ◌⊎◌, sym, ap, ◌∙◌, subst, inl, inr, le_trans, le_of_eq, le_refl, lt_of_lt_of_le, le_of_suc-le-suc, lt_of_le_of_lt, add-zero, le_of_lt, lt_irrefl, zero-lt-suc, mul_assoc, add-mul, eq-zero-or-pos, mul-le-mul, add_comm, mul-lt-mul_of_pos_right, mul-pos, lt_of_not-le, zero-mul, mul-one, not-le_of_lt, sub-le, add-one-le, arith, lit<, lit≤, leb→le, pow_pos, pow_mono, pow-add, shl_lt, Float}
 use native.Mathlib.Nat.{mul-mul-mul_comm, eq_of_mul-eq-mul_right}
 use lib.Dec.{nleb→lt}
-use lib.Ieee.{Float, nan, inf, fin, binary32, units, fits, eq}
+use lib.Ieee.{nan, inf, fin, binary32, units, fits, eq}
 use lib.Ieee.Fits.{down_pos}
 use lib.Ieee.Exact.{HasValue, units_val}
 use Rattle.numeric.specs.Bits.{none}

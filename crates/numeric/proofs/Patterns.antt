@@ -1,13 +1,11 @@
 -- What an f32's pattern says of it: the number, in units of 2 ^ -149, the smallest f32; the sign; and whether it is a NaN or a zero. Assumes nothing.
-use Rattle.std.proofs.Common.{◌≡◌, ℕ, zero, suc, ◌+◌, ◌-◌, ◌*◌, ◌/◌, ◌%◌, ◌^◌, ◌<◌, ◌≤◌, Bool, true, false, cond, not, T, eqb, ltb, leb, ℤ, pos, negsuc, sym, refl, ap, ◌∙◌, subst, true≢false, le_of_lt, lt_irrefl, mod-eq_of_lt, zero-lt-suc, mul-pos, one-mul, zero-mul, mul-one, mul-div_cancel, arith, eqb→eq, ltb-false, ltb-true, le-ltb, ne_eqb}
-use mathlib.Core.Bool.{false≢true}
+use Rattle.std.proofs.lemmas.Bool.{false≢true, lt-leb}
+use Rattle.std.proofs.Common.{◌≡◌, ℕ, zero, suc, ◌+◌, ◌-◌, ◌*◌, ◌/◌, ◌%◌, ◌^◌, ◌<◌, ◌≤◌, Bool, true, false, cond, not, T, eqb, ltb, leb, ℤ, pos, negsuc, sym, refl, ap, ◌∙◌, subst, true≢false, le_of_lt, lt_irrefl, mod-eq_of_lt, zero-lt-suc, mul-pos, one-mul, zero-mul, mul-one, mul-div_cancel, arith, eqb→eq, ltb-false, ltb-true, le-ltb, ne_eqb, Float}
 use native.Mathlib.Nat.{pow-succ'}
-use borrow.Author.Tests.{lt-leb}
 use lib.Arith.{digits_div, digits_mod}
-use lib.Ieee.{Float, nan, inf, fin, binary32, up, down, size, odd, units, round, fits, is_nan, neg, lt, eq, ne, div, of_fields, of_bits, to_bits, nan_bits}
+use lib.Ieee.{nan, inf, fin, binary32, up, down, size, odd, units, round, fits, is_nan, neg, lt, eq, div, of_fields, of_bits, to_bits, nan_bits}
 use lib.Ieee.Fits.{up_pos, down_pos, round_is}
 use lib.Ieee.Bits.{of_bits-to_bits, nan_bits_is, nan_bits_above}
-use lib.Ieee.Compare.{differs_from_itself}
 use lib.Ieee.Exact.{HasValue, odd_sign}
 use Rattle.numeric.specs.Bits.{none, ◌⊘◌, field_units, pattern_units}
 
@@ -21,16 +19,12 @@ no h = subst (λ (a : Bool). T (not a)) (sym h) tt
 
 -- ---- NaNs
 
--- `x != x` passes at the NaN alone.
-pub is_nan_lem : (x : Float) → ne x x ≡ true → x ≡ nan
-is_nan_lem x h = differs_from_itself x (yes h)
-
--- Where `x != x` fails, x is no NaN.
-pub no_nan : (x : Float) → ne x x ≡ false → is_nan x ≡ false
-unfolding ne is_nan
-no_nan nan h = absurd (true≢false h)
-no_nan (inf s) h = refl
-no_nan (fin s m e) h = refl
+-- The test passes at the NaN alone.
+pub is_nan_lem : (x : Float) → true ≡ is_nan x → x ≡ nan
+unfolding is_nan
+is_nan_lem nan h = refl
+is_nan_lem (inf s) h = absurd (true≢false h)
+is_nan_lem (fin s m e) h = absurd (true≢false h)
 
 -- A pattern below the infinity's is no NaN's.
 pub no_nan_bits : (b : ℕ) → b < 2139095040 → nan_bits binary32 b ≡ false

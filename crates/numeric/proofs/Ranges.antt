@@ -1,9 +1,8 @@
 -- What rounds to a whole number from 1 to 65,535: of whole numbers these, and nothing below zero or from 2 ^ 23 on. Assumes nothing.
-use Rattle.std.proofs.Common.{◌≡◌, ℕ, zero, suc, ◌+◌, ◌*◌, ◌/◌, ◌%◌, ◌^◌, ◌<◌, ◌≤◌, Bool, true, false, cond, not, ◌&&◌, T, eqb, leb, sym, refl, ap, ◌∙◌, ap₂, inl, inr, true≢false, le_trans, le_of_eq, le_of_suc-le-suc, lt_irrefl, mul-le-mul_right, mul-le-mul, eq-or-lt_of_le, mul-lt-mul_of_pos_right, mul_right_comm, le_of_mul-le-mul_right, arith, le→leb, leb→le, pow_pos, pow_mono, eqb-true, le-leb, leb-false, leb-true}
-use mathlib.Core.Bool.{false≢true}
-use borrow.Author.Tests.{lt-leb}
+use Rattle.std.proofs.lemmas.Bool.{false≢true, lt-leb}
+use Rattle.std.proofs.Common.{◌≡◌, ℕ, zero, suc, ◌+◌, ◌*◌, ◌/◌, ◌%◌, ◌^◌, ◌<◌, ◌≤◌, Bool, true, false, cond, not, ◌&&◌, T, eqb, leb, sym, refl, ap, ◌∙◌, ap₂, inl, inr, true≢false, le_trans, le_of_eq, le_of_suc-le-suc, lt_irrefl, mul-le-mul_right, mul-le-mul, eq-or-lt_of_le, mul-lt-mul_of_pos_right, mul_right_comm, le_of_mul-le-mul_right, arith, le→leb, leb→le, pow_pos, pow_mono, eqb-true, le-leb, leb-false, leb-true, Float}
 use lib.Dec.{nleb→lt}
-use lib.Ieee.{Float, nan, inf, fin, binary32, up, down, round, fits, lt, eq, le, of_bits, of_fields, of_int, in_float}
+use lib.Ieee.{nan, inf, fin, binary32, up, down, round, fits, lt, eq, le, of_bits, of_fields, of_int, in_float}
 use lib.Ieee.Back.{round_whole, unsigned_back}
 use lib.Ieee.Fits.{down_pos}
 use lib.Ieee.Exact.{HasValue}

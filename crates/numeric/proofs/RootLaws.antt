@@ -1,15 +1,15 @@
 -- What the functions of `roots` cite. Assumes nothing.
-use Rattle.std.proofs.Common.{◌≡◌, ℕ, zero, suc, ◌+◌, ◌-◌, ◌*◌, ◌/◌, ◌%◌, ◌^◌, ◌<◌, ◌≤◌, Bool, true, false, cond, not, T, eqb, ltb, leb, sym, refl, ap, ◌∙◌, subst, inl, inr, true≢false, le_trans, le_of_eq, lt_of_le_of_lt, le_of_lt, mod-eq_of_lt, zero-lt-suc, mul_assoc, eq-zero-or-pos, mul-le-mul, add_comm, eq-or-lt_of_le, one-mul, mul-one, not-le_of_lt, mul-div_cancel, add-one, add-one-le, arith, lit<, ltb→lt, leb→le, pow_mono, pow-add, le-ltb, lt-ltb, leb-false}
-use mathlib.Core.Bool.{false≢true}
+use Rattle.std.proofs.lemmas.Bool.{false≢true}
+use Rattle.std.proofs.Common.{◌≡◌, ℕ, zero, suc, ◌+◌, ◌-◌, ◌*◌, ◌/◌, ◌%◌, ◌^◌, ◌<◌, ◌≤◌, Bool, true, false, cond, not, T, eqb, ltb, leb, sym, refl, ap, ◌∙◌, subst, inl, inr, true≢false, le_trans, le_of_eq, lt_of_le_of_lt, le_of_lt, mod-eq_of_lt, zero-lt-suc, mul_assoc, eq-zero-or-pos, mul-le-mul, add_comm, eq-or-lt_of_le, one-mul, mul-one, not-le_of_lt, mul-div_cancel, add-one, add-one-le, arith, lit<, ltb→lt, leb→le, pow_mono, pow-add, le-ltb, lt-ltb, leb-false, Float}
 use native.Mathlib.Nat.{pow-succ'}
 use lib.Dec.{nleb→lt, eqb-suc-zero}
-use lib.Ieee.{Float, nan, inf, fin, binary32, up, down, size, odd, units, fits, lt, eq, ne, of_fields, of_bits}
+use lib.Ieee.{nan, inf, fin, binary32, up, down, size, odd, units, fits, is_nan, lt, eq, of_fields, of_bits}
 use lib.Ieee.Fits.{odd-fits, inf-fits, down_pos, kept-lt}
 use lib.Ieee.Bits.{of_bits-to_bits, of_bits-fits}
 use lib.Ieee.Exact.{HasValue, units_val}
 use Rattle.numeric.specs.Bits.{none, field_units, pattern_units}
 use Rattle.numeric.specs.Root.{whole_root, nearer_root, units_root, root_of}
-use Rattle.numeric.proofs.Patterns.{is_nan_lem, no_nan, pattern_value, same_value, bits, x_is, value, negative, bits_negative, above_zero, zero_equals, some_differs}
+use Rattle.numeric.proofs.Patterns.{is_nan_lem, pattern_value, same_value, bits, x_is, value, negative, bits_negative, above_zero, zero_equals, some_differs}
 use Rattle.numeric.proofs.Squares.{Root, Near, near_down, near_up, twice_square, whole_root_lem, root_ge, root_lt, leading, dropped, above_middle, below_middle}
 
 -- ---- the pattern of q * 2 ^ k units, for a q from 2 ^ 23 to 2 ^ 24
@@ -151,7 +151,7 @@ shifted n (suc (suc p)) a b c = (omega arith, omega arith, omega arith)
 
 -- ---- `root_of` in the order of `root`'s tests
 
-pub of_nan : (x : Float) → ne x x ≡ true → x ≡ root_of x
+pub of_nan : (x : Float) → true ≡ is_nan x → x ≡ root_of x
 unfolding root_of
 of_nan x h = rw (is_nan_lem x h)
 
@@ -186,9 +186,9 @@ top t = go (eqb t 0)
     go false = refl
 
 -- neither a NaN, nor a zero, nor below zero
-module _ (x : Float) (F : T (fits binary32 x)) (number : ne x x ≡ false) (other : eq x none ≡ false) (above : lt x none ≡ false) where
+module _ (x : Float) (F : T (fits binary32 x)) (number : is_nan x ≡ false) (other : eq x none ≡ false) (above : lt x none ≡ false) where
   clear : leb 2147483648 (bits x) ≡ false
-  clear = sym (bits_negative x F (no_nan x number)) ∙ above_zero x above other
+  clear = sym (bits_negative x F number) ∙ above_zero x above other
 
   low : bits x < 2147483648
   low = leb-false 2147483648 (bits x) clear

@@ -1,6 +1,6 @@
 -- What `abs` and `signum` cite: magnitude and sign by the sign's flag. Assumes nothing.
-use Rattle.std.proofs.Common.{◌≡◌, Bool, true, false, pos, refl, ap, true≢false}
-use lib.Ieee.{Float, nan, inf, fin, is_nan, neg, of_bits}
+use Rattle.std.proofs.Common.{◌≡◌, Bool, true, false, pos, refl, ap, true≢false, Float}
+use lib.Ieee.{nan, inf, fin, is_nan, neg, of_bits}
 use Rattle.numeric.specs.Bits.{none}
 use Rattle.numeric.specs.Scalar.{magnitude, signed, sign_of}
 use Rattle.numeric.proofs.Patterns.{negative}

@@ -18,13 +18,6 @@ pub next_square : (r : ℕ) → (r + 1) * (r + 1) ≡ r * r + 2 * r + 1
 next_square r = let e : (r + 1) * (r + 1) ≡ r * (r + 1) + 1 * (r + 1) = add-mul r 1 (r + 1) in
     let f : r * (r + 1) ≡ r * r + r * 1 = mul-add r r 1 in omega arith
 
--- the square of a 32-bit number fits 64, and so does the number below the next square
-pub square_fits : (r : ℕ) → r ≤ 4294967295 → r * r + 2 * r < 18446744073709551616
-square_fits r h =
-    let l : r + 1 ≤ 4294967296 = omega arith in
-    let k : (r + 1) * (r + 1) ≤ 4294967296 * 4294967296 = mul-le-mul l l in
-    omega (arith, next_square r)
-
 pub odd_square : (r : ℕ) → (2 * r + 1) * (2 * r + 1) ≡ 4 * (r * r) + 4 * r + 1
 odd_square r = let e = next_square (2 * r) in let f = twice_square r in omega arith
 

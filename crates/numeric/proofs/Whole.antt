@@ -1,8 +1,8 @@
 -- What `nearest_whole` and `round` cite: the nearest whole number read off a pattern, and that from 2 ^ 23 on an f32 is one. Assumes nothing.
-use Rattle.std.proofs.Common.{◌≡◌, ℕ, zero, suc, ◌+◌, ◌-◌, ◌*◌, ◌/◌, ◌%◌, ◌^◌, ◌<◌, ◌≤◌, Bool, true, false, cond, T, eqb, leb, sym, refl, ap, ◌∙◌, inl, inr, lt_of_lt_of_le, le_of_suc-le-suc, lt_of_le_of_lt, lt_irrefl, mod-lt, zero-lt-suc, mul_assoc, mul_comm, add-mul, eq-or-lt_of_le, mul-pos, mul-one, div-le_self, mul-div_cancel, mul_left_comm, arith, lit≤, pow_pos, pow_mono, pow-add, shl_lt, shr-shr}
+use Rattle.std.proofs.lemmas.Nat.{shl-shr}
+use Rattle.std.proofs.Common.{◌≡◌, ℕ, zero, suc, ◌+◌, ◌-◌, ◌*◌, ◌/◌, ◌%◌, ◌^◌, ◌<◌, ◌≤◌, Bool, true, false, cond, T, eqb, leb, sym, refl, ap, ◌∙◌, inl, inr, lt_of_lt_of_le, le_of_suc-le-suc, lt_of_le_of_lt, lt_irrefl, mod-lt, zero-lt-suc, mul_assoc, mul_comm, add-mul, eq-or-lt_of_le, mul-pos, mul-one, div-le_self, mul-div_cancel, mul_left_comm, arith, lit≤, pow_pos, pow_mono, pow-add, shl_lt, shr-shr, Float}
 use native.Mathlib.Nat.{mul-mul-mul_comm, pow-succ', div-div-eq-div-mul, add-div_right, div-eq_of_lt}
-use lib.Pow.{shl-shr}
-use lib.Ieee.{Float, nan, inf, fin, binary32, up, down, round, fits, of_fields}
+use lib.Ieee.{nan, inf, fin, binary32, up, down, round, fits, of_fields}
 use lib.Ieee.Fits.{down_pos, round-fits}
 use lib.Ieee.Digits.{back}
 use lib.Ieee.Exact.{HasValue, round_exact}

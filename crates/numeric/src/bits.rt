@@ -6,10 +6,10 @@ ghost use Rattle.std.specs.Float.{binary32};
 pub fn to_bits(x: f32) -> u32
     ensures { result ≡ to_bits binary32 x }
 {
-    if x != x {
+    if x.is_nan() {
         return 0x7fc0_0000;
     }
-    f32::to_bits(x)
+    x.to_bits()
 }
 
 // The f32 with the pattern b. Every NaN's pattern gives the one NaN.

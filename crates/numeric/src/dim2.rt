@@ -5,22 +5,40 @@ ghost use Rattle.numeric.specs.Kernel.{minus_all, precompute_weights, stencil_wi
 use crate::kernel;
 
 #[repr(C)]
-#[derive(Clone, Copy)]
+#[derive(Clone, Copy, Debug, PartialEq)]
 pub struct Vector {
     pub x: f32,
     pub y: f32,
 }
 
 #[repr(C)]
-#[derive(Clone, Copy)]
+#[derive(Clone, Copy, Debug, PartialEq)]
 pub struct Point {
     pub x: f32,
     pub y: f32,
 }
 
+impl From<Vector> for Point {
+    ghost from_gives = { λ v p. p ≡ record { x = v.x; y = v.y } };
+
+    // The point at which the vector from the origin ends.
+    fn from(v: Vector) -> Point {
+        Point { x: v.x, y: v.y }
+    }
+}
+
+impl From<Point> for Vector {
+    ghost from_gives = { λ p v. v ≡ record { x = p.x; y = p.y } };
+
+    // The vector from the origin to the point.
+    fn from(p: Point) -> Vector {
+        Vector { x: p.x, y: p.y }
+    }
+}
+
 // By rows: m01 stands in row 0, column 1.
 #[repr(C)]
-#[derive(Clone, Copy)]
+#[derive(Clone, Copy, Debug, PartialEq)]
 pub struct Matrix {
     pub m00: f32,
     pub m01: f32,

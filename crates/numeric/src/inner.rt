@@ -8,11 +8,11 @@ pub fn nearest_whole(a: u32) -> u32
     requires { a < 1258291200 }
     ensures { (result ≡ nearest_whole (pattern_units a) (2 ^ 149)) × (result ≤ 2 ^ 24) }
 {
-    let field: u32 = a / 0x80_0000;
+    let field = a / 0x80_0000;
     if field < 126 {
         return 0;
     }
     // twice the number, without its fraction
-    let twice: u32 = (0x80_0000 + a % 0x80_0000) >> (149 - field);
+    let twice = (0x80_0000 + a % 0x80_0000) >> (149 - field);
     (twice + 1) / 2
 }

@@ -10,10 +10,10 @@ use crate::bits;
 fn halved_root(n: u64) -> u64
     ensures { (result * result ≤ n) × (n < (result + 1) * (result + 1)) }
 {
-    let mut lo: u64 = 0;
-    let mut hi: u64 = 0x1_0000_0000;
+    let mut lo = 0;
+    let mut hi = 0x1_0000_0000;
     while 1 < hi - lo {
-        let mid: u64 = lo + (hi - lo) / 2;
+        let mid = lo + (hi - lo) / 2;
         if mid * mid <= n {
             lo = mid;
         } else {
@@ -28,21 +28,21 @@ fn halved_near(n: u64) -> u64
     requires { (2 ^ 46 ≤ n) × (n < 2 ^ 48) }
     ensures { (result * result < n + result) × (n ≤ result * result + result) }
 {
-    let r: u64 = halved_root(n);
+    let r = halved_root(n);
     if r < n - r * r { r + 1 } else { r }
 }
 
 // The digits of the root of the normal f32 with the pattern b, one off at most, as those of a pattern: nothing rests on this guess but the time that it saves.
 fn guessed_root(b: u32) -> u32 {
     // the number times a power of 4, from 1/2 to 2: its root has the same digits
-    let c: u32 = b % 0x100_0000 + 0x3f00_0000;
-    let x: f32 = f32::from_bits(c);
+    let c = b % 0x100_0000 + 0x3f00_0000;
+    let x = f32::from_bits(c);
     // half the pattern halves the exponent: within one part in 25, and of 12 digits, so that its square is exact
-    let a: f32 = f32::from_bits(c / 0x2000 * 0x1000 + 0x1fbc_0000);
-    let q: f32 = a * a;
+    let a = f32::from_bits(c / 0x2000 * 0x1000 + 0x1fbc_0000);
+    let q = a * a;
     // a step like Newton's, which takes the error to its fifth power where Newton's squares it
-    let p: f32 = 4.0 * (x + q) * (a * (x - q));
-    let r: f32 = 5.0 * q * (q + 2.0 * x) + x * x;
+    let p = 4.0 * (x + q) * (a * (x - q));
+    let r = 5.0 * q * (q + 2.0 * x) + x * x;
     bits::to_bits(a + p / r)
 }
 
@@ -51,11 +51,9 @@ fn tested_root(n: u64, r: u64) -> u64
     requires { (2 ^ 46 ≤ n) × (n < 2 ^ 48) × (r ≤ 2 ^ 24) }
     ensures { (result * result < n + result) × (n ≤ result * result + result) }
 {
-    let s: u64 = r * r;
-    if s < n + r {
-        if n <= s + r {
-            return r;
-        }
+    let s = r * r;
+    if s < n + r && n <= s + r {
+        return r;
     }
     halved_near(n)
 }
@@ -65,8 +63,8 @@ fn near_root(n: u64, guess: u32) -> u64
     requires { (2 ^ 46 ≤ n) × (n < 2 ^ 48) }
     ensures { (result * result < n + result) × (n ≤ result * result + result) }
 {
-    let q: u64 = (guess % 0x80_0000 + 0x80_0000) as u64;
-    let s: u64 = q * q;
+    let q = u64::from(guess % 0x80_0000 + 0x80_0000);
+    let s = q * q;
     if s + q < n {
         return tested_root(n, q + 1);
     }
@@ -89,11 +87,11 @@ fn scaled_root(n: u64, k: u32) -> u32
     requires { (0 < n) × (n < 2 ^ 48) × (2 ^ 46 ≤ n * (2 ^ k * 2 ^ k)) × (k ≤ 201) }
     ensures { (from_bits binary32 result ≡ units_root (n * (2 ^ k * 2 ^ k))) × (result < 2139095040) }
 {
-    let mut m: u64 = n;
-    let mut h: u32 = k;
+    let mut m = n;
+    let mut h = k;
     while m < 0x4000_0000_0000 {
-        m = m * 4;
-        h = h - 1;
+        m *= 4;
+        h -= 1;
     }
     // so small a number is rare, and gets no guess
     leading_root(m, h, 0)
@@ -104,8 +102,8 @@ fn root_pattern(b: u32) -> u32
     requires { (0 < b) × (b < 2139095040) }
     ensures { (from_bits binary32 result ≡ units_root (pattern_units b * 2 ^ 149)) × (result < 2139095040) }
 {
-    let field: u32 = b / 0x80_0000;
-    let digits: u64 = (b % 0x80_0000) as u64;
+    let field = b / 0x80_0000;
+    let digits = u64::from(b % 0x80_0000);
     if field == 0 {
         return scaled_root(digits * 2, 74);
     }
@@ -121,7 +119,7 @@ fn root_pattern(b: u32) -> u32
 pub fn root(x: f32) -> f32
     ensures { result ≡ root_of x }
 {
-    if x != x {
+    if x.is_nan() {
         return x;
     }
     if x == 0.0 {
@@ -130,7 +128,7 @@ pub fn root(x: f32) -> f32
     if x < 0.0 {
         return 0.0 / 0.0;
     }
-    let b: u32 = f32::to_bits(x);
+    let b = x.to_bits();
     // the infinity
     if b >= 0x7f80_0000 {
         return x;

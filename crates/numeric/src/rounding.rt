@@ -8,16 +8,16 @@ use crate::inner::nearest_whole;
 pub fn round(x: f32) -> f32
     ensures { result ≡ round_away x }
 {
-    if x != x {
+    if x.is_nan() {
         return x;
     }
-    let b: u32 = f32::to_bits(x);
-    let a: u32 = b % 0x8000_0000;
+    let b = x.to_bits();
+    let a = b % 0x8000_0000;
     // from 2^23 on every f32 is whole
     if a >= 0x4b00_0000 {
         return x;
     }
-    let y: f32 = nearest_whole(a) as f32;
+    let y = nearest_whole(a) as f32;
     if b >= 0x8000_0000 { -y } else { y }
 }
 
@@ -26,7 +26,7 @@ pub fn to_u32(x: f32) -> u32
     ensures { result ≡ cast_u32 x }
 {
     if x >= 4294967296.0 {
-        return 4294967295;
+        return u32::MAX;
     }
     if x > -1.0 {
         return std::num::truncating_f32_to_u64(x) as u32;

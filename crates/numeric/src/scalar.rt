@@ -9,20 +9,18 @@ pub fn inv_exact(e: f32) -> f32
     if e == 0.0 { 0.0 } else { 1.0 / e }
 }
 
-// The larger of a and b: the number if one side is a NaN, and +0 of two zeros.
+// The larger of a and b: the number if one side is a NaN, and +0 of two zeros, where the library's `max` may answer either.
 pub fn max(a: f32, b: f32) -> f32
     ensures { result ≡ maximum a b }
 {
-    if a != a {
+    if a.is_nan() {
         return b;
     }
-    if b != b {
+    if b.is_nan() {
         return a;
     }
-    if a == 0.0 {
-        if b == 0.0 {
-            return 0.0;
-        }
+    if a == 0.0 && b == 0.0 {
+        return 0.0;
     }
     if a < b { b } else { a }
 }
@@ -41,10 +39,10 @@ pub fn abs(x: f32) -> f32
 pub fn signum(x: f32) -> f32
     ensures { result ≡ sign_of x }
 {
-    if x != x {
+    if x.is_nan() {
         return x;
     }
-    if f32::to_bits(x) >= 0x8000_0000 {
+    if x.to_bits() >= 0x8000_0000 {
         -1.0
     } else {
         1.0

@@ -1,106 +1,91 @@
 // A line of vectors as a question: a letter for the operation, and up to five fields, each a tab and
 // the eight digits of an f32's bits or of a u32.
-use fields::{Number, hex, low};
+use fields::{hex, low};
 
-// A question, or that a line is none. A field that the operation does not have is 0.
-#[derive(Clone, Copy)]
-pub enum Question {
-    Is {
-        letter: u8,
-        a: u32,
-        b: u32,
-        c: u32,
-        d: u32,
-        e: u32,
-    },
-    Not,
+// A function of `numeric`, or `Bits`, the pattern through from_bits and to_bits.
+#[derive(Clone, Copy, Debug, PartialEq, Eq)]
+pub enum Operation {
+    Round,
+    ToU32,
+    FromU32,
+    Root,
+    InvExact,
+    Max,
+    Abs,
+    Signum,
+    Bits,
+    InvD,
+    EvalAll,
+    Eval,
+    EvalDerivative,
+    PrecomputeWeights,
+    StencilWithDir,
+    Stencil,
+    StencilGradientWithDir,
+    StencilGradient,
 }
 
-// The question of the bytes of s from `from` up to `to`.
-pub fn read(s: &[u8], from: usize, to: usize) -> Question {
-    if s.len() < to {
-        return Question::Not;
-    }
-    if to <= from {
-        return Question::Not;
-    }
-    let letter = s[from];
-    let size = size_of(letter);
-    if size == 0 {
-        return Question::Not;
-    }
-    if to - from - 1 != size {
-        return Question::Not;
-    }
-    fields(s, from + 1, to, letter)
+// A field that the operation does not have is 0.
+#[derive(Clone, Copy, Debug, PartialEq, Eq)]
+pub struct Question {
+    pub operation: Operation,
+    pub fields: [u32; 5],
 }
 
-// How many bytes an operation's fields take, nine each, or 0 for a letter that is none.
-fn size_of(letter: u8) -> usize {
-    match letter {
-        b'r' | b'c' | b'w' | b'q' | b'i' | b'a' | b'g' | b'b' | b'd' | b'e' | b'k' | b'v' => 9,
-        b'm' => 18,
-        b'p' | b's' | b'x' => 27,
-        b't' | b'y' => 45,
-        _ => 0,
-    }
-}
-
-// The fields from `at` up to `to`.
-fn fields(s: &[u8], at: usize, to: usize, letter: u8) -> Question {
-    let at2 = after(at, to);
-    let at3 = after(at2, to);
-    let at4 = after(at3, to);
-    let at5 = after(at4, to);
-    let Number::Is(a) = field(s, at, to) else {
-        return Question::Not;
-    };
-    let Number::Is(b) = field(s, at2, to) else {
-        return Question::Not;
-    };
-    let Number::Is(c) = field(s, at3, to) else {
-        return Question::Not;
-    };
-    let Number::Is(d) = field(s, at4, to) else {
-        return Question::Not;
-    };
-    let Number::Is(e) = field(s, at5, to) else {
-        return Question::Not;
-    };
-    Question::Is {
-        letter,
-        a: low(a),
-        b: low(b),
-        c: low(c),
-        d: low(d),
-        e: low(e),
+impl Question {
+    // The question that a line is, if it is one.
+    pub fn read(text: &[u8]) -> Option<Question> {
+        let mut parts = text.split(|b| *b == b'\t');
+        let operation = Operation::of(parts.next()?)?;
+        let mut fields = [0; 5];
+        for field in fields.iter_mut().take(operation.size()) {
+            let part = parts.next()?;
+            *field = low(hex(part, 0, part.len(), 8)?);
+        }
+        match parts.next() {
+            Some(_) => None,
+            None => Some(Question { operation, fields }),
+        }
     }
 }
 
-// Where the field after the one at `at` begins.
-fn after(at: usize, to: usize) -> usize {
-    if to < 9 {
-        return to;
+impl Operation {
+    fn of(name: &[u8]) -> Option<Operation> {
+        let [letter] = name else {
+            return None;
+        };
+        match letter {
+            b'r' => Some(Operation::Round),
+            b'c' => Some(Operation::ToU32),
+            b'w' => Some(Operation::FromU32),
+            b'q' => Some(Operation::Root),
+            b'i' => Some(Operation::InvExact),
+            b'm' => Some(Operation::Max),
+            b'a' => Some(Operation::Abs),
+            b'g' => Some(Operation::Signum),
+            b'b' => Some(Operation::Bits),
+            b'd' => Some(Operation::InvD),
+            b'e' => Some(Operation::EvalAll),
+            b'k' => Some(Operation::Eval),
+            b'v' => Some(Operation::EvalDerivative),
+            b'p' => Some(Operation::PrecomputeWeights),
+            b's' => Some(Operation::StencilWithDir),
+            b't' => Some(Operation::Stencil),
+            b'x' => Some(Operation::StencilGradientWithDir),
+            b'y' => Some(Operation::StencilGradient),
+            _ => None,
+        }
     }
-    if to - 9 < at {
-        return to;
-    }
-    at + 9
-}
 
-// The field at `at`, or 0 where there is none before `to`.
-fn field(s: &[u8], at: usize, to: usize) -> Number {
-    if to <= at {
-        return Number::Is(0);
+    // How many fields it has.
+    fn size(self) -> usize {
+        match self {
+            Operation::Max => 2,
+            Operation::PrecomputeWeights
+            | Operation::StencilWithDir
+            | Operation::StencilGradientWithDir => 3,
+            Operation::Stencil | Operation::StencilGradient => 5,
+            _ => 1,
+        }
     }
-    if s.len() < to {
-        return Number::Bad;
-    }
-    if to - at < 9 {
-        return Number::Bad;
-    }
-    if s[at] != b'\t' {
-        return Number::Bad;
-    }
-    hex(s, at + 1, at + 9, 8)
 }

@@ -2,11 +2,11 @@
 -- Assumes nothing.
 use Rattle.std.proofs.Common.{◌≡◌, ℕ, zero, suc, ◌+◌, ◌-◌, ◌*◌, ◌/◌, ◌%◌, ◌^◌, ◌<◌, ◌≤◌, Bool, true, false, ◌||◌, T, eqb, ◌⊎◌, List, [], ◌∷◌, sym, refl, ap, ◌∙◌, subst, inl, inr, ⊎_elim, mod-eq_of_lt, mul_assoc, mul_comm, add-sub_of_le, pow-suc, arith, eqb→eq, pow_pos, pow-add}
 use mathlib.Core.List.Memᴰ
-use native.Mathlib.Nat.{mod_self, div-div-eq-div-mul}
-use native.Mathlib.Decide.{dec_lt}
-use lib.Arith.{mod-mul}
-use lib.Dec.{eqb_refl}
-use lib.Bits.{shifted_half, shifted_even}
+use Rattle.std.proofs.Math.Nat.{mod_self, div-div-eq-div-mul}
+use Rattle.std.proofs.Math.Decide.{dec_lt}
+use Rattle.std.proofs.Math.Arith.{mod-mul}
+use Rattle.std.proofs.Math.Dec.{eqb_refl}
+use Rattle.std.specs.Int.Bits.{shifted_half, shifted_even}
 use Rattle.packing.specs.Mask.{Mask, count, coord}
 use Rattle.packing.specs.Neighbours.{◌∈◌, near}
 use Rattle.packing.proofs.Linear.{or_left, or_right, or_cases}

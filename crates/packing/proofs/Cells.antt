@@ -2,12 +2,12 @@
 -- Assumes nothing.
 use Rattle.std.proofs.Common.{◌≡◌, ℕ, zero, suc, ◌+◌, ◌*◌, ◌/◌, ◌%◌, ◌^◌, ◌<◌, ◌≤◌, Bool, true, not, ◌&&◌, T, eqb, ltb, List, [], ◌∷◌, map, length, get_or, sym, refl, ap, ◌∙◌, subst, ap₂, le_of_suc-le-suc, not-suc-le-zero, lt_of_le_of_lt, mod-lt, pow-suc, add-one, arith, ltb→lt, T_not, pow_pos, shr-shr}
 use mathlib.Core.List.Memᴰ
-use native.Mathlib.Nat.{mod-one}
-use lib.Arith.{mod-mul}
-use lib.Dec.{eqb_refl}
-use lib.ListN.{length-map}
-use lib.Pow.{shl-shr, split}
-use lib.Bits.{bit_and, and_block, and_shr, and_zero_l, and_le_r, and_mask}
+use Rattle.std.proofs.Math.Nat.{mod-one}
+use Rattle.std.proofs.Math.Arith.{mod-mul}
+use Rattle.std.proofs.Math.Dec.{eqb_refl}
+use Rattle.std.proofs.Math.ListN.{length-map}
+use Rattle.std.proofs.Math.Pow.{shl-shr, split}
+use Rattle.std.specs.Int.Bits.{bit_and, and_block, and_shr, and_zero_l, and_le_r, and_mask}
 use Rattle.packing.specs.Mask.{Mask, coords, packed, wrapped, sums, whole, minus, negs, below}
 use Rattle.packing.specs.Ids.{Dim, packed_id, coordinates, sum, region, number, cell_of, colour, to_fours, from_fours, packed_shifts, packed_region_shifts, region_neighbours, stencil_of}
 use Rattle.packing.specs.Neighbours.{◌∈◌, Distinct, IsCell, IsRegion, reach, carry, Reaches, reached_by, Common, nears, block, parities}

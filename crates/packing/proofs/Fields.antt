@@ -1,13 +1,11 @@
 -- The fields of an id below and above its digit 12: the number of a cell in its region, and the colour of a region.
 -- Assumes nothing.
-use Rattle.std.proofs.Common.{◌≡◌, ℕ, zero, suc, ◌+◌, ◌-◌, ◌*◌, ◌/◌, ◌%◌, ◌^◌, ◌<◌, ◌≤◌, Bool, true, false, T, eqb, leb, List, [], ◌∷◌, ◌++◌, length, drop, replicate, sym, refl, ap, ◌∙◌, ap₂, zero-le, mod-lt, mul_assoc, mul_comm, add-mul, add_comm, pow-suc, zero-mul, one-add, arith, lit<, leb→le, pow_pos, pow-add, shl_lt, shl_exact, shr-shr, lt_of_le_ones, eq-eqb, ne_eqb, eqb-true}
-use native.Mathlib.Nat.{mod-one, pow-le-pow_right}
-use borrow.Author.Tests.{eqb-false}
-use lib.Arith.{mod-mul}
-use lib.Pow.{shl-shr}
-use lib.Bits.{bit_and, bit_or, or_shifted_r, and_mask, and_high}
+use Rattle.std.proofs.Common.{◌≡◌, ℕ, zero, suc, ◌+◌, ◌*◌, ◌/◌, ◌%◌, ◌^◌, ◌<◌, ◌≤◌, true, false, List, [], ◌∷◌, ◌++◌, length, drop, replicate, sym, ap, ◌∙◌, ap₂, zero-le, mod-lt, mul_assoc, mul_comm, add-mul, add_comm, pow-suc, zero-mul, one-add, arith, lit<, lt_of_lt_of_le, mod-eq_of_lt, pow-add, shl_lt, shr-shr}
+use Rattle.std.proofs.Math.Nat.{mod-one, pow-le-pow_right}
+use Rattle.std.proofs.Math.Arith.{mod-mul}
+use Rattle.std.specs.Int.Bits.{bit_or, or_shifted_r}
 use Rattle.packing.specs.Mask.{Mask, coord, place, coords, packed}
-use Rattle.packing.specs.Ids.{Dim, sum, region, from_fours, to_fours, number, cell_of}
+use Rattle.packing.specs.Ids.{Dim, sum, region, from_fours, to_fours, cell_of}
 use Rattle.packing.proofs.Linear.{place_zero}
 
 -- ---- two digits of each axis, one axis after the other
@@ -39,7 +37,7 @@ InRow lo (m ∷ ms) = (from lo (drop (lo + 2) m) ≡ m) × InRow (lo + 2) ms
 base_4 : (n k : ℕ) → n % 4 ^ suc k ≡ (n / 4 % 4 ^ k) * 4 + n % 4
 base_4 n k = ap (λ (x : ℕ). n % x) (pow-suc 4 k) ∙ mod-mul n (pow-le-pow_right (lit< tt) zero-le) (lit< tt)
 
-read_fours : (lo : ℕ) (ms : List Mask) → InRow lo ms → (i : ℕ) → from_fours (coords ms i) ≡ i / 2 ^ lo % 4 ^ length ms
+pub read_fours : (lo : ℕ) (ms : List Mask) → InRow lo ms → (i : ℕ) → from_fours (coords ms i) ≡ i / 2 ^ lo % 4 ^ length ms
 unfolding from_fours coords
 read_fours lo [] r i = sym (mod-one (i / 2 ^ lo))
 read_fours lo (m ∷ ms) r i =
@@ -49,7 +47,7 @@ read_fours lo (m ∷ ms) r i =
     read_fours (lo + 2) ms r.1 i ∙ ap (λ (x : ℕ). x % 4 ^ k) (sym (shr-shr i lo 2)) in
     omega (arith, base_4 (i / 2 ^ lo) k)
 
-packed_fours : (lo : ℕ) (ms : List Mask) → InRow lo ms → (n : ℕ) → packed ms (to_fours ms n) ≡ (n % 4 ^ length ms) * 2 ^ lo
+pub packed_fours : (lo : ℕ) (ms : List Mask) → InRow lo ms → (n : ℕ) → packed ms (to_fours ms n) ≡ (n % 4 ^ length ms) * 2 ^ lo
 unfolding packed to_fours
 packed_fours lo [] r n = sym (ap (λ (x : ℕ). x * 2 ^ lo) (mod-one n) ∙ zero-mul (2 ^ lo))
 packed_fours lo (m ∷ ms) r n =
@@ -61,33 +59,13 @@ packed_fours lo (m ∷ ms) r n =
     ∙ ap (λ (x : ℕ). x + n % 4 * 2 ^ lo) (sym (mul_assoc q 4 (2 ^ lo)))
     ∙ sym (ap (λ (x : ℕ). x * 2 ^ lo) (base_4 n (length ms)) ∙ add-mul (q * 4) (n % 4) (2 ^ lo))
 
--- what the code computes, where two digits for each axis are j digits
-module _ (d : Dim) (r : InRow 6 d.sum_axes) (j : ℕ) (e : 4 ^ length d.sum_axes ≡ 2 ^ j) where
-  pub number_is : (i : ℕ) → bit_and (i / 2 ^ 6) (2 ^ j - 1) ≡ number d i
-  unfolding number
-  number_is i = and_mask (i / 2 ^ 6) j ∙ sym (rw e at (read_fours 6 d.sum_axes r i))
+-- where a region has k cells
+pub some_cells : {k : ℕ} (n : ℕ) → k ≡ 4 ^ n → 0 < k
+some_cells {k} n e = rw e (lt_of_lt_of_le (lit< tt) (pow-le-pow_right (lit< tt) zero-le))
 
-  pub cell_is : (i n : ℕ) {g s : ℕ} → T (leb (j + 6) 64) → g ≡ region i → s ≡ sum d g (((n % 2 ^ j) * 2 ^ 6) % 2 ^ 64) → s ≡ cell_of d i n
-  unfolding cell_of
-  cell_is i n t g s =
-      s
-      ∙ ap₂ (sum d) g
-      (shl_exact j 6 64 (mod-lt n (pow_pos j)) (leb→le (j + 6) 64 t) ∙ sym (rw e at (packed_fours 6 d.sum_axes r n)))
-
--- ---- the colour
-
-scaled : (k a b : ℕ) (t : Bool) → eqb a b ≡ t → eqb (a * 2 ^ k) (b * 2 ^ k) ≡ t
-scaled k a b true e = eq-eqb (a * 2 ^ k) (b * 2 ^ k) (ap (λ (x : ℕ). x * 2 ^ k) (eqb-true a b e))
-scaled k a b false e =
-    ne_eqb (a * 2 ^ k) (b * 2 ^ k) (λ h. eqb-false a b e (sym (shl-shr a k) ∙ ap (λ (x : ℕ). x / 2 ^ k) h ∙ shl-shr b k))
-
--- k digits from 12 on, against a colour
-module _ (k r c : ℕ) where
-  pub out_of_range : 2 ^ k ≤ c → false ≡ eqb (r / 2 ^ 12 % 2 ^ k) c
-  out_of_range h = sym (ne_eqb (r / 2 ^ 12 % 2 ^ k) c (λ e. omega (arith, mod-lt (r / 2 ^ 12) (pow_pos k))))
-
-  pub in_range_lem : c ≤ 2 ^ k - 1 → T (leb (k + 12) 64)
-      → eqb (bit_and r (2 ^ (k + 12) - 2 ^ 12)) ((c * 2 ^ 12) % 2 ^ 64) ≡ eqb (r / 2 ^ 12 % 2 ^ k) c
-  in_range_lem h t =
-      ap₂ eqb (and_high r k 12) (shl_exact k 12 64 (lt_of_le_ones k h) (leb→le (k + 12) 64 t))
-      ∙ scaled 12 (r / 2 ^ 12 % 2 ^ k) c (eqb (r / 2 ^ 12 % 2 ^ k) c) refl
+pub cell_is : (d : Dim) (i n : ℕ) {k g s : ℕ} → 0 < k → k ≤ 64 → packed d.sum_axes (to_fours d.sum_axes n) ≡ (n % k) * 2 ^ 6 → g ≡ region i
+    → s ≡ sum d g (((n % k) * 2 ^ 6) % 2 ^ 64) → s ≡ cell_of d i n
+unfolding cell_of
+cell_is d i n {k} z h p g s =
+    let f : n % k * 2 ^ 6 < 2 ^ 64 = omega (arith, mod-lt n z) in
+    s ∙ ap₂ (sum d) g (mod-eq_of_lt f ∙ sym p)

@@ -1,9 +1,9 @@
 -- The sums of ids over any list of masks that share no digit: a commutative group on the ids without stray digits.
 -- Assumes nothing.
 use Rattle.std.proofs.Common.{◌≡◌, ℕ, zero, suc, ◌+◌, ◌-◌, ◌*◌, ◌/◌, ◌%◌, ◌^◌, ◌<◌, Bool, true, false, not, T, leb, List, [], ◌∷◌, sym, refl, ap, ◌∙◌, ap₂, lt_of_lt_of_le, add-zero, le_of_lt, add_assoc, mod-eq_of_lt, add-sub_of_le, add_comm, pow-suc, arith, leb→le, pow_pos, pow_mono}
-use native.Mathlib.Nat.{mod-one, zero-mod, mod-mod, mod_self, mod-add-mod, add-mod-mod, add-mod}
-use lib.Arith.{mod-mul}
-use lib.Bits.{bit_and, bit_or, or_mod, or_zero_r, and_comm, and_zero_r}
+use Rattle.std.proofs.Math.Nat.{mod-one, zero-mod, mod-mod, mod_self, mod-add-mod, add-mod-mod, add-mod}
+use Rattle.std.proofs.Math.Arith.{mod-mul}
+use Rattle.std.specs.Int.Bits.{bit_and, bit_or, or_mod, or_zero_r, and_comm, and_zero_r}
 use Rattle.packing.specs.Mask.{Mask, num, count, coord, place, hd, tl, coords, packed, wrapped, sums, negs, low, below, sum_of, minus, whole}
 use Rattle.packing.proofs.Sum.{and_set, and_clear}
 use Rattle.packing.proofs.Linear.{both, both_left, both_right, and_or, coord_or, coord_zero}

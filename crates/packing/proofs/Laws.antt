@@ -1,8 +1,8 @@
 -- The laws of every mask, and those of 2D and 3D, where what is left is computed of the masks and shifts.
 -- Assumes nothing.
 use Rattle.std.proofs.Common.{◌≡◌, ℕ, ◌+◌, ◌*◌, ◌/◌, ◌%◌, ◌^◌, ◌<◌, List, [], ◌∷◌, map, length, get_or, sym, refl, ap, ◌∙◌, subst, ap₂, mod-eq_of_lt, arith}
-use native.Mathlib.Nat.{mod-mod}
-use lib.Bits.{bit_and}
+use Rattle.std.proofs.Math.Nat.{mod-mod}
+use Rattle.std.specs.Int.Bits.{bit_and}
 use Rattle.packing.specs.Mask.{Mask, num, count, coord, place, bits, axis_sum, coords, whole, packed, below, wrapped, sums}
 use Rattle.packing.specs.Ids.{dim2, dim3, packed_id, sum, region, cell_of, packed_shifts, stencil_of, number, from_fours, to_fours}
 use Rattle.packing.specs.Neighbours.{IsCell}

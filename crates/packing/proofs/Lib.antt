@@ -1,6 +1,6 @@
 -- words of shifts and masks, and the functions' own laws
 pub mod Linear
-pub mod Morton
+pub mod Ladders
 pub mod Placing
 pub mod Fields
 pub mod Fill

@@ -1,9 +1,9 @@
 -- Two expressions of shifts, masks, ors, places and coordinates that agree on each single digit agree on every number.
 -- Assumes nothing.
 use Rattle.std.proofs.Common.{◌≡◌, ℕ, zero, suc, ◌+◌, ◌*◌, ◌/◌, ◌%◌, ◌^◌, ◌<◌, min, max, Bool, true, false, ◌&&◌, ◌||◌, T, eqb, ◌⊎◌, [], ◌∷◌, sym, refl, ap, ◌∙◌, ap₂, inl, inr, mod-lt, pow-suc, zero-mul, arith, eqb→eq, pow_pos}
-use native.Mathlib.Nat.{zero-div, zero-mod}
-use lib.Arith.{bin_ind, lt-one}
-use lib.Bits.{bit_and, bit_or, and_step, or_step, or_shr, and_shr, or_mod, or_block, or_zero_r, or_comm}
+use Rattle.std.proofs.Math.Nat.{zero-div, zero-mod}
+use Rattle.std.proofs.Math.Arith.{bin_ind, lt-one}
+use Rattle.std.specs.Int.Bits.{bit_and, bit_or, and_step, or_step, or_shr, and_shr, or_mod, or_block, or_zero_r, or_comm}
 use Rattle.packing.specs.Mask.{Mask, coord, place}
 
 infixl 70 ◌&◌ ◌>>◌

@@ -1,7 +1,7 @@
 -- An axis as the code packs and unpacks it: two low digits of the coordinate at lo, and the rest, step places apart, from hi on.
 -- Assumes nothing.
 use Rattle.std.proofs.Common.{◌≡◌, ℕ, ◌*◌, ◌/◌, ◌%◌, ◌^◌, ◌<◌, T, leb, w32, Fits}
-use lib.Bits.{bit_and, bit_or}
+use Rattle.std.specs.Int.Bits.{bit_and, bit_or}
 use Rattle.packing.specs.Mask.{Mask, count, place, coord}
 use Rattle.packing.specs.Ids.{axis}
 use Rattle.packing.proofs.Linear.{Puts, Gets, put, get}

@@ -2,10 +2,10 @@
 -- Assumes nothing.
 use Rattle.std.proofs.Common.{◌≡◌, ℕ, zero, suc, ◌+◌, ◌*◌, ◌/◌, ◌%◌, ◌^◌, ◌<◌, ◌≤◌, Bool, true, T, leb, List, [], ◌∷◌, map, length, sym, refl, ap, ◌∙◌, ap₂, ⊎_elim, mod-eq_of_lt, pow-suc, arith, leb→le}
 use mathlib.Core.List.Memᴰ
-use native.Mathlib.Nat.{mod-one}
-use native.Mathlib.Decide.{dec_lt}
-use lib.Arith.{mod-mul}
-use lib.Bits.{bit_or}
+use Rattle.std.proofs.Math.Nat.{mod-one}
+use Rattle.std.proofs.Math.Decide.{dec_lt}
+use Rattle.std.proofs.Math.Arith.{mod-mul}
+use Rattle.std.specs.Int.Bits.{bit_or}
 use Rattle.packing.specs.Mask.{Mask, count, coord, coords, packed, wrapped, sums, hd, tl}
 use Rattle.packing.specs.Ids.{region, from_fours, to_fours}
 use Rattle.packing.specs.Neighbours.{◌∈◌, near, nears, block, block_count, parities}

@@ -1,9 +1,9 @@
 -- A masked sum adds the mask's coordinates, for any mask.
 -- Assumes nothing.
 use Rattle.std.proofs.Common.{◌≡◌, ℕ, zero, suc, ◌+◌, ◌-◌, ◌*◌, ◌/◌, ◌%◌, ◌^◌, ◌<◌, min, max, true, false, [], ◌∷◌, length, sym, refl, ap, ◌∙◌, ap₂, lt_of_le_of_lt, mod-lt, mod-eq_of_lt, pow-suc, arith, pow_pos}
-use native.Mathlib.Nat.{mod-one}
-use lib.Arith.{mod-mul}
-use lib.Bits.{bit_and, bit_or, and_step, or_step, and_zero_r, and_le_r, and_mod}
+use Rattle.std.proofs.Math.Nat.{mod-one}
+use Rattle.std.proofs.Math.Arith.{mod-mul}
+use Rattle.std.specs.Int.Bits.{bit_and, bit_or, and_step, or_step, and_zero_r, and_le_r, and_mod}
 use Rattle.packing.specs.Mask.{Mask, num, count, coord, place, bits, is_one}
 
 -- ---- one digit of a mask

@@ -3,12 +3,16 @@
 
 pub mod dim2;
 pub mod dim3;
-mod morton2;
-mod morton3;
+mod morton;
+mod space;
 
 ghost use Rattle.std.specs.Prelude.{◌≡◌};
 ghost use Rattle.packing.specs.Mask.{axis_sum};
-ghost use Rattle.packing.specs.Ids.{region, complement};
+ghost use Rattle.packing.specs.Ids.{region};
+
+pub use dim2::Plane;
+pub use dim3::Solid;
+pub use space::Space;
 
 // The region part of an id starts at this bit, and the cell's number inside its region at that one.
 pub const PACK_HEADER: u32 = 12;
@@ -30,14 +34,4 @@ pub fn region_of(cell_id: u64) -> u64
     ensures { result ≡ region cell_id }
 {
     cell_id & REGION_ID_MASK
-}
-
-// The 32 bits of a signed coordinate.
-pub(crate) fn two_complement(x: i32) -> u32
-    ensures { result ≡ complement x }
-{
-    if x < 0 {
-        return !((-1 - x) as u32);
-    }
-    x as u32
 }

@@ -8,35 +8,15 @@ mod question;
 
 use fields::out::put_byte;
 use question::Question;
-use replay::Input;
-use std::io::{Print, Read};
 
 fn main(rt: HostRuntime) {
-    let mut space = [0u8; 65536];
-    let mut room = [0u8; 65536];
-    lines(&mut rt.stdin(), &rt, &mut space, &mut room);
+    replay::run(&mut rt.stdin(), &rt, reply);
 }
 
-fn lines<R: Read, P: Print>(input: &mut R, output: &P, buf: &mut [u8], out: &mut [u8]) {
-    let mut at = replay::start();
-    while let Input::Line(place) = replay::next(input, output, buf, at) {
-        let end = reply(buf, place.from, place.to, out);
-        replay::write_line(output, out, end);
-        at = place;
+// Puts the answer at the front of out, and says where it ends. Each program has a `Question` and an answer of its own; what they share is `replay::run`.
+fn reply(text: &[u8], out: &mut [u8]) -> usize {
+    match Question::read(text) {
+        Some(question) => answer::answer(question, out),
+        None => put_byte(out, 0, b'?'),
     }
-}
-
-// Puts the answer at the front of out, and says where it ends.
-fn reply(text: &[u8], from: usize, to: usize, out: &mut [u8]) -> usize {
-    let Question::Is {
-        letter,
-        axes,
-        a,
-        b,
-        c,
-    } = question::read(text, from, to)
-    else {
-        return put_byte(out, 0, b'?');
-    };
-    answer::answer(letter, axes, a, b, c, out, 0)
 }

@@ -1,166 +1,158 @@
 // A line of vectors as a question: an operation, one letter and one digit, and up to three fields.
-use fields::{Number, decimal, find, hex};
+use fields::{decimal, hex};
 
-// A question, or that a line is none.
-#[derive(Clone, Copy)]
-pub enum Question {
-    Is {
-        letter: u8,
-        axes: u8,
-        a: u64,
-        b: u64,
-        c: u64,
-    },
-    Not,
+#[derive(Clone, Copy, Debug, PartialEq, Eq)]
+pub enum Axes {
+    Two,
+    Three,
 }
 
-// The kind of each field of an operation: H, W and D as the vectors' format has them, C a decimal
-// below 2^32, and `-` for a field that must not be there.
-#[derive(Clone, Copy)]
-struct Kinds {
-    first: u8,
-    second: u8,
-    third: u8,
+// What is asked of a cell's or a region's id, in the plane or in space alike.
+#[derive(Clone, Copy, Debug, PartialEq, Eq)]
+pub enum Cells {
+    PackedAdd,
+    NegOne,
+    NegTwo,
+    PlusFive,
+    InColor,
+    Neighbors,
+    Stencil,
+    Shifts,
+    RegionShifts,
+    Number,
+    OfRegion,
 }
 
-// The question of the bytes of s from `from` up to `to`.
-pub fn read(s: &[u8], from: usize, to: usize) -> Question {
-    if s.len() < to {
-        return Question::Not;
-    }
-    if to < from {
-        return Question::Not;
-    }
-    let e = find(s, from, to, b'\t');
-    if e - from != 2 {
-        return Question::Not;
-    }
-    fields(s, e, to, s[from], s[from + 1])
+#[derive(Clone, Copy, Debug, PartialEq, Eq)]
+pub enum Operation {
+    Pack(Axes),
+    Packi(Axes),
+    Unpack(Axes),
+    Of(Axes, Cells),
+    RegionOf,
+    MaskedAdd,
 }
 
-// The fields after the operation, which ends at e.
-fn fields(s: &[u8], e: usize, to: usize, letter: u8, axes: u8) -> Question {
-    let k = kinds_of(letter, axes);
-    let e1 = after(s, e, to);
-    let e2 = after(s, e1, to);
-    let e3 = after(s, e2, to);
-    if e3 < to {
-        return Question::Not;
-    }
-    let Number::Is(a) = field(s, e, e1, to, k.first) else {
-        return Question::Not;
-    };
-    let Number::Is(b) = field(s, e1, e2, to, k.second) else {
-        return Question::Not;
-    };
-    let Number::Is(c) = field(s, e2, e3, to, k.third) else {
-        return Question::Not;
-    };
-    Question::Is {
-        letter,
-        axes,
-        a,
-        b,
-        c,
-    }
+// A field that the operation does not have is 0.
+#[derive(Clone, Copy, Debug, PartialEq, Eq)]
+pub struct Question {
+    pub operation: Operation,
+    pub a: u64,
+    pub b: u64,
+    pub c: u64,
 }
 
-// Where the field ends that begins after the tab at e.
-fn after(s: &[u8], e: usize, to: usize) -> usize {
-    if to <= e {
-        return to;
-    }
-    find(s, e + 1, to, b'\t')
+// The kinds of a field: H, W and D as the vectors' format has them, and a decimal below 2^32.
+#[derive(Clone, Copy, Debug, PartialEq, Eq)]
+enum Kind {
+    Id,
+    Word,
+    Number,
+    Coordinate,
 }
 
-// The field that begins after the tab at e and ends at end.
-fn field(s: &[u8], e: usize, end: usize, to: usize, kind: u8) -> Number {
-    if kind == b'-' {
-        return absent(e, to);
-    }
-    if to <= e {
-        return Number::Bad;
-    }
-    match kind {
-        b'H' => hex(s, e + 1, end, 16),
-        b'W' => hex(s, e + 1, end, 8),
-        b'C' => below(decimal(s, e + 1, end)),
-        b'D' => decimal(s, e + 1, end),
-        _ => Number::Bad,
+impl Question {
+    // The question that a line is, if it is one.
+    pub fn read(text: &[u8]) -> Option<Question> {
+        let mut parts = text.split(|b| *b == b'\t');
+        let operation = Operation::of(parts.next()?)?;
+        let [first, second, third] = operation.kinds();
+        let a = field(first, parts.next())?;
+        let b = field(second, parts.next())?;
+        let c = field(third, parts.next())?;
+        match parts.next() {
+            Some(_) => None,
+            None => Some(Question { operation, a, b, c }),
+        }
     }
 }
 
-fn absent(e: usize, to: usize) -> Number {
-    if to <= e {
-        return Number::Is(0);
-    }
-    Number::Bad
-}
-
-// A coordinate is below 2^32.
-fn below(n: Number) -> Number {
-    let Number::Is(x) = n else {
-        return Number::Bad;
-    };
-    if x < 0x1_0000_0000 {
-        return n;
-    }
-    Number::Bad
-}
-
-fn kinds_of(letter: u8, axes: u8) -> Kinds {
-    if axes == b'2' {
-        return kinds_in_space(letter, false);
-    }
-    if axes == b'3' {
-        return kinds_in_space(letter, true);
-    }
-    if axes == b'0' {
-        return kinds_of_root(letter);
-    }
-    none()
-}
-
-fn kinds_in_space(letter: u8, three: bool) -> Kinds {
-    match letter {
-        b'p' => point(b'C', three),
-        b'i' => point(b'W', three),
-        b'a' => two(b'H', b'H'),
-        b'c' | b'l' => two(b'H', b'D'),
-        b'u' | b'o' | b'w' | b'f' | b'n' | b's' | b'k' => two(b'H', b'-'),
-        b't' | b'g' => two(b'-', b'-'),
-        _ => none(),
+// The number that a field says. One that must not be there is 0.
+fn field(kind: Option<Kind>, part: Option<&[u8]>) -> Option<u64> {
+    match (kind, part) {
+        (Some(kind), Some(text)) => kind.read(text),
+        (None, None) => Some(0),
+        _ => None,
     }
 }
 
-fn kinds_of_root(letter: u8) -> Kinds {
-    match letter {
-        b'r' => two(b'H', b'-'),
-        b'm' => point(b'H', true),
-        _ => none(),
+impl Kind {
+    fn read(self, text: &[u8]) -> Option<u64> {
+        match self {
+            Kind::Id => hex(text, 0, text.len(), 16),
+            Kind::Word => hex(text, 0, text.len(), 8),
+            Kind::Number => decimal(text, 0, text.len()),
+            Kind::Coordinate => decimal(text, 0, text.len()).filter(|n| *n < 0x1_0000_0000),
+        }
     }
 }
 
-fn point(kind: u8, three: bool) -> Kinds {
-    if three {
-        return Kinds {
-            first: kind,
-            second: kind,
-            third: kind,
-        };
+impl Operation {
+    fn of(name: &[u8]) -> Option<Operation> {
+        match name {
+            [letter, b'2'] => Operation::on(*letter, Axes::Two),
+            [letter, b'3'] => Operation::on(*letter, Axes::Three),
+            [b'r', b'0'] => Some(Operation::RegionOf),
+            [b'm', b'0'] => Some(Operation::MaskedAdd),
+            _ => None,
+        }
     }
-    two(kind, kind)
+
+    // What a letter stands for on the axes that its digit says.
+    fn on(letter: u8, axes: Axes) -> Option<Operation> {
+        match letter {
+            b'p' => Some(Operation::Pack(axes)),
+            b'i' => Some(Operation::Packi(axes)),
+            b'u' => Some(Operation::Unpack(axes)),
+            _ => Some(Operation::Of(axes, Cells::of(letter)?)),
+        }
+    }
+
+    // The kinds of its fields.
+    fn kinds(self) -> [Option<Kind>; 3] {
+        match self {
+            Operation::Pack(axes) => of_axes(Kind::Coordinate, axes),
+            Operation::Packi(axes) => of_axes(Kind::Word, axes),
+            Operation::Of(_, cells) => cells.kinds(),
+            Operation::Unpack(_) | Operation::RegionOf => [Some(Kind::Id), None, None],
+            Operation::MaskedAdd => [Some(Kind::Id); 3],
+        }
+    }
 }
 
-fn two(first: u8, second: u8) -> Kinds {
-    Kinds {
-        first,
-        second,
-        third: b'-',
+impl Cells {
+    fn of(letter: u8) -> Option<Cells> {
+        match letter {
+            b'a' => Some(Cells::PackedAdd),
+            b'o' => Some(Cells::NegOne),
+            b'w' => Some(Cells::NegTwo),
+            b'f' => Some(Cells::PlusFive),
+            b'c' => Some(Cells::InColor),
+            b'n' => Some(Cells::Neighbors),
+            b's' => Some(Cells::Stencil),
+            b't' => Some(Cells::Shifts),
+            b'g' => Some(Cells::RegionShifts),
+            b'k' => Some(Cells::Number),
+            b'l' => Some(Cells::OfRegion),
+            _ => None,
+        }
+    }
+
+    // The kinds of its fields.
+    fn kinds(self) -> [Option<Kind>; 3] {
+        match self {
+            Cells::PackedAdd => [Some(Kind::Id), Some(Kind::Id), None],
+            Cells::InColor | Cells::OfRegion => [Some(Kind::Id), Some(Kind::Number), None],
+            Cells::Shifts | Cells::RegionShifts => [None; 3],
+            _ => [Some(Kind::Id), None, None],
+        }
     }
 }
 
-// No field is of the kind `?`, so no line is a question of an operation that is not there.
-fn none() -> Kinds {
-    two(b'?', b'?')
+fn of_axes(kind: Kind, axes: Axes) -> [Option<Kind>; 3] {
+    [
+        Some(kind),
+        Some(kind),
+        (axes == Axes::Three).then_some(kind),
+    ]
 }

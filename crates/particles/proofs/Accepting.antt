@@ -1,22 +1,12 @@
 -- What a check that refuses nothing has shown. Assumes nothing.
-use mathlib.Core.Path.{◌≡◌}
-use mathlib.Core.Bool.{false}
-use mathlib.Core.List.{List, [], ◌∷◌}
-use Prim.Native.Nat.{ℕ, ◌+◌, ◌≤◌, ◌<◌}
-use native.Mathlib.Omega.{arith}
-use lib.Dec.{eqb}
-use lib.Ieee.{Float}
-use lib.ListN.{length, get_or}
-use borrow.Author.Tests.{eqb-true}
+use Rattle.std.proofs.Common.{◌≡◌, false, List, [], ◌∷◌, ℕ, ◌+◌, ◌≤◌, ◌<◌, arith, eqb, Float, length, get_or, eqb-true}
 use Rattle.laws.specs.Store.{Store}
 use Rattle.laws.specs.Refusals as Refusals
 use Rattle.laws.proofs.Refusals as Refused
 use Rattle.packing.specs.Ids.{dim2, stencil_of}
 use Rattle.cells.specs.Cells.{cell_associated_to_point, region_associated_to_point}
-use Rattle.grid.specs.Answers.{refused, refuse, first}
+use Rattle.grid.specs.Answers.{refused, refuse, first, Answer, done}
 use Rattle.grid.specs.Table.{all, finite, is_flag, region_ids, start_of, count_of, cover}
-use Rattle.grid.specs.declared.Answer.{Answer}
-use Rattle.grid.specs.declared.Answer.TheVariants.{Done}
 use Rattle.grid.specs.declared.Rule.{Rule}
 use Rattle.grid.specs.declared.Rule.TheVariants.{Code, NotFinite, OffGrid, OutOfRegion, Unlisted}
 use Rattle.grid.proofs.Answers.{refuse_passed, not_false}
@@ -34,7 +24,7 @@ none : (rule : Rule) (h : Float) (ids : List ℕ) (r : ℕ) (s : Store) (p n : �
 unfolding first_particle
 none rule h ids r s p n e k l b =
     refuse_passed (judged rule h ids r (particle_at s k)) rule k
-    (Refusals.Laws.passed (Refused.laws refused Done) (λ i. refuse (judged rule h ids r (particle_at s i)) rule i) p n e k l b)
+    (Refusals.Laws.passed (Refused.laws refused done) (λ i. refuse (judged rule h ids r (particle_at s i)) rule i) p n e k l b)
 
 pub accepted : (h : Float) (ids ranges : List ℕ) (s : Store) (n : ℕ) → refused (checked h ids ranges s n) ≡ false → Accepted h ids ranges s n
 unfolding checked placed judged bad_flag not_finite off_grid out_of_region unlisted out_of_regions
@@ -58,7 +48,7 @@ accepted h ids ranges s n e =
           eqb-true (region_associated_to_point dim2 h (position_of (particle_at s p))) (get_or ids r 0)
           (not_false (eqb (region_associated_to_point dim2 h (position_of (particle_at s p))) (get_or ids r 0))
           (none OutOfRegion h ids (get_or ids r 0) s (start_of ranges r) (count_of ranges r)
-          (Refusals.Laws.passed (Refused.laws refused Done) (λ i. first_particle OutOfRegion h ids (get_or ids i 0) s (start_of ranges i) (count_of ranges i)) 0 (length ids) nine.0 r (omega arith) (omega arith))
+          (Refusals.Laws.passed (Refused.laws refused done) (λ i. first_particle OutOfRegion h ids (get_or ids i 0) s (start_of ranges i) (count_of ranges i)) 0 (length ids) nine.0 r (omega arith) (omega arith))
           p l u));
       stencils = λ p b.
           not_false (all (listed ids) (stencil_of dim2 (cell_associated_to_point dim2 h (position_of (particle_at s p))))) (none Unlisted h ids 0 s 0 n ten.0 p (omega arith) (omega arith));

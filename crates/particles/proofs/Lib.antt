@@ -1,4 +1,5 @@
 pub mod Every
+pub mod Ranges
 pub mod Accepting
 pub mod Staging
 pub mod Placing

@@ -1,16 +1,9 @@
 -- A finite position over an accepted width is a number, and of two numbers one is below the other or not. Assumes nothing.
-use mathlib.Core.Path.{◌≡◌, refl, sym, ap, ◌∙◌}
-use mathlib.Core.Bool.{Bool, true, false, ◌&&◌, ◌||◌, not, cond, true≢false}
-use mathlib.Core.List.{List, [], ◌∷◌}
-use mathlib.Core.Logic.{◌⊎◌, inl, inr, ◌↔◌, ⊎_elim}
-use Prim.Native.Nat.{ℕ, zero, suc, ◌+◌, ◌*◌, ◌-◌, ◌/◌, ◌%◌, ◌^◌, ◌<◌, ◌≤◌, compare}
-use native.Mathlib.Nat.{zero-mul, eq-or-lt_of_le}
-use native.Mathlib.Omega.{arith}
-use lib.Dec.{eqb, ltb}
+use Rattle.std.proofs.Common.{◌≡◌, refl, sym, ap, ◌∙◌, Bool, true, false, ◌&&◌, ◌||◌, not, cond, true≢false, List, [], ◌∷◌, ◌⊎◌, inl, inr, ◌↔◌, ⊎_elim, ℕ, zero, suc, ◌+◌, ◌*◌, ◌-◌, ◌/◌, ◌%◌, ◌^◌, ◌<◌, ◌≤◌, zero-mul, eq-or-lt_of_le, arith, eqb, ltb, Float, eqb-true, lt-ltb, le-ltb, eq-eqb, ne_eqb}
+use Prim.Native.Nat.{compare}
 use lib.IntN.{ℤ}
 use lib.Ieee.Fits.{down_pos}
-use lib.Ieee.{Float, Format, nan, inf, fin, binary32, up, down, unlike, below, level, low, prec, emax, size, nearest as nearest-to, odd, units, round, lt, eq, le, div, of_bits, is_nan}
-use borrow.Author.Tests.{eqb-true, lt-ltb, le-ltb, eq-eqb, ne_eqb}
+use lib.Ieee.{Format, nan, inf, fin, binary32, up, down, unlike, below, level, low, prec, emax, size, nearest as nearest-to, odd, units, round, lt, eq, le, div, of_bits, is_nan}
 use Rattle.laws.proofs.Rows.{lt_or_ge}
 use Rattle.numeric.specs.Bits.{◌⊘◌, one}
 use Rattle.numeric.specs.Round.{round_away}

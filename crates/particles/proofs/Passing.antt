@@ -1,13 +1,5 @@
 -- What is seen in one pass: particles that no rule refuses, region by region, so that the check is done. Assumes nothing.
-use mathlib.Core.Path.{◌≡◌, refl, sym, ap, ◌∙◌}
-use mathlib.Core.Bool.{Bool, true, false, not}
-use mathlib.Core.List.{List, [], ◌∷◌}
-use mathlib.Core.Logic.{⊎_elim}
-use Prim.Native.Nat.{ℕ, zero, suc, ◌+◌, ◌*◌, ◌/◌, ◌%◌, ◌≤◌, ◌<◌}
-use native.Mathlib.Omega.{arith}
-use lib.Ieee.{Float}
-use lib.ListN.{length, get_or}
-use borrow.Author.Tests.{eq-eqb}
+use Rattle.std.proofs.Common.{◌≡◌, refl, sym, ap, ◌∙◌, Bool, true, false, not, List, [], ◌∷◌, ⊎_elim, ℕ, zero, suc, ◌+◌, ◌*◌, ◌/◌, ◌%◌, ◌≤◌, ◌<◌, arith, Float, length, get_or, eq-eqb, None, Option, Some}
 use Rattle.laws.specs.Store.{Store}
 use Rattle.laws.specs.Refusals as Refusals
 use Rattle.laws.proofs.Refusals as Refused
@@ -17,11 +9,8 @@ use Rattle.packing.proofs.Laws.{plane}
 use Rattle.cells.specs.Cells.{cell_associated_to_point, region_associated_to_point}
 use Rattle.cells.specs.Lookup.{lookup}
 use Rattle.cells.specs.Stencil.{step_at}
-use Rattle.cells.specs.declared.Found.{Found}
-use Rattle.cells.specs.declared.Found.TheVariants.{At, Absent}
-use Rattle.grid.specs.Answers.{refused, refuse}
+use Rattle.grid.specs.Answers.{refused, refuse, done}
 use Rattle.grid.specs.Table.{region_ids, start_of, count_of, before, cover, Covers}
-use Rattle.grid.specs.declared.Answer.TheVariants.{Done}
 use Rattle.grid.specs.declared.Rule.{Rule}
 use Rattle.grid.specs.declared.Rule.TheVariants.{Length, Limit, Setting, Code, NotFinite, RegionIds, Cover, OffGrid, OutOfRegion, Unlisted}
 use Rattle.particles.specs.Particles.{particle_at, position_of}
@@ -45,9 +34,9 @@ is_listed : (ids : List ℕ) (cell : ℕ) → is_at (node_place ids cell) ≡ tr
 unfolding node_place
 is_listed ids cell e = go (lookup ids (region cell)) e
   where
-    go : (f : Found) → is_at (of_region f (number dim2 cell)) ≡ true → is_at f ≡ true
-    go (At k) e = refl
-    go Absent e = e
+    go : (f : Option ℕ) → is_at (of_region f (number dim2 cell)) ≡ true → is_at f ≡ true
+    go (Some k) e = refl
+    go None e = e
 
 each_listed : (h : Float) (ids : List ℕ) (q : Particle) → ((i j : ℕ) → i < 3 → j < 3 → is_at (node_place ids (get_or (stencil_of dim2 (cell_associated_to_point dim2 h (position_of q))) (i * 3 + j) 0)) ≡ true) → unlisted h ids q ≡ false
 unfolding unlisted
@@ -106,25 +95,25 @@ home regions ranges n covers (suc m) l p u =
 module _ (h : Float) (ids ranges : List ℕ) (s : Store) (n : ℕ) (covers : Covers (length ids) ranges n)
     (pass : (i : ℕ) → i < length ids → AllPass h ids (get_or ids i 0) s (start_of ranges i) (count_of ranges i)) where
   -- a rule that does not look at the region refuses none of the particles
-  none : (rule : Rule) → ((r : ℕ) (q : Particle) → judged rule h ids r q ≡ false → judged rule h ids 0 q ≡ false) → first_particle rule h ids 0 s 0 n ≡ Done
+  none : (rule : Rule) → ((r : ℕ) (q : Particle) → judged rule h ids r q ≡ false → judged rule h ids 0 q ≡ false) → first_particle rule h ids 0 s 0 n ≡ done
   unfolding first_particle
   none rule any =
-      Refusals.Laws.none (Refused.laws refused Done) (λ i. refuse (judged rule h ids 0 (particle_at s i)) rule i) 0 n
+      Refusals.Laws.none (Refused.laws refused done) (λ i. refuse (judged rule h ids 0 (particle_at s i)) rule i) 0 n
       (λ p l u.
       let a = home (length ids) ranges n covers (length ids) (omega arith) p (omega (arith, covers.all_taken)) in
       ap (λ (b : Bool). refused (refuse b rule p)) (any (get_or ids a.at 0) (particle_at s p) (pass a.at a.is p a.from a.to rule)))
 
   -- and none is out of its region
-  all_in : out_of_regions h ids ranges s ≡ Done
+  all_in : out_of_regions h ids ranges s ≡ done
   unfolding out_of_regions first_particle
   all_in =
-      Refusals.Laws.none (Refused.laws refused Done) (λ r. first_particle OutOfRegion h ids (get_or ids r 0) s (start_of ranges r) (count_of ranges r)) 0 (length ids)
+      Refusals.Laws.none (Refused.laws refused done) (λ r. first_particle OutOfRegion h ids (get_or ids r 0) s (start_of ranges r) (count_of ranges r)) 0 (length ids)
       (λ r l u.
       ap refused
-      (Refusals.Laws.none (Refused.laws refused Done) (λ i. refuse (judged OutOfRegion h ids (get_or ids r 0) (particle_at s i)) OutOfRegion i) (start_of ranges r) (count_of ranges r)
+      (Refusals.Laws.none (Refused.laws refused done) (λ i. refuse (judged OutOfRegion h ids (get_or ids r 0) (particle_at s i)) OutOfRegion i) (start_of ranges r) (count_of ranges r)
       (λ p a b. ap (λ (c : Bool). refused (refuse c OutOfRegion p)) (pass r (omega arith) p a b OutOfRegion))))
 
-  pub done : region_ids ids ≡ Done → cover (length ids) ranges n ≡ Done → checked h ids ranges s n ≡ Done
+  pub all_pass : region_ids ids ≡ done → cover (length ids) ranges n ≡ done → checked h ids ranges s n ≡ done
   unfolding checked placed judged
-  done ids-good cover-good =
+  all_pass ids-good cover-good =
       rw (none Code (λ r q e. e), none NotFinite (λ r q e. e), ids-good, cover-good, none OffGrid (λ r q e. e), all_in, none Unlisted (λ r q e. e))

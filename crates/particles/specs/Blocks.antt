@@ -1,14 +1,12 @@
 -- The nodes that the stencils of a region's cells reach: 6 along each axis from the region's first cell on. A stage looks for their places once a region. Definitions, and
 -- what is proved of them.
 -- Assumes nothing.
-use Rattle.std.specs.Prelude.{◌≡◌, Bool, true, false, List, [], ◌∷◌, ℕ, zero, suc, ◌+◌, ◌*◌, ◌/◌, ◌%◌, ◌≤◌, ◌<◌, Float, length, get_or}
+use Rattle.std.specs.Prelude.{◌≡◌, Bool, true, false, List, [], ◌∷◌, ℕ, zero, suc, ◌+◌, ◌*◌, ◌/◌, ◌%◌, ◌≤◌, ◌<◌, Float, length, get_or, None, Option, Some}
 use Rattle.packing.specs.Ids.{dim2, packed_id, sum, region, stencil_of}
 use Rattle.numeric.specs.Round.{cast_u32}
 use Rattle.cells.specs.Cells.{nearest, one_off, cell_associated_to_point}
 use Rattle.cells.specs.Lookup.{lookup}
 use Rattle.cells.specs.Stencil.{step_at}
-use Rattle.cells.specs.declared.Found.{Found}
-use Rattle.cells.specs.declared.Found.TheVariants.{At, Absent}
 use Rattle.grid.specs.Nodes.{region_cells}
 use Rattle.grid.specs.Table.{all}
 use Rattle.particles.specs.Particles.{position_of}
@@ -28,13 +26,13 @@ abbrev pub beyond : ℕ → ℕ → ℕ → ℕ
 beyond r x y = sum dim2 r (packed_id dim2 (x ∷ y ∷ []))
 
 -- the region itself, and those that its stencils reach: beyond it along x, along y, and along both
-abbrev pub reach_of : List ℕ → ℕ → List Found
+abbrev pub reach_of : List ℕ → ℕ → List (Option ℕ)
 reach_of ids r = lookup ids (beyond r 0 0) ∷ lookup ids (beyond r 4 0) ∷ lookup ids (beyond r 0 4) ∷ lookup ids (beyond r 4 4) ∷ []
 
 -- a block holds numbers: 0 for none, and of a place one more
-abbrev pub found_at : ℕ → Found
-found_at zero = Absent
-found_at (suc k) = At k
+abbrev pub found_at : ℕ → Option ℕ
+found_at zero = None
+found_at (suc k) = Some k
 
 -- the places of a region's block, row by row
 abbrev pub IsBlock : List ℕ → ℕ → List ℕ → Type 0
@@ -53,7 +51,7 @@ abbrev pub corner_of : Float → Particle → ℕ
 corner_of h q = corner_in (one_off (cast_u32 (nearest h q.position.x))) (one_off (cast_u32 (nearest h q.position.y)))
 
 -- the place of the node that lies x and y beyond a corner
-abbrev pub place_at : List ℕ → ℕ → ℕ → ℕ → Found
+abbrev pub place_at : List ℕ → ℕ → ℕ → ℕ → Option ℕ
 place_at block corner x y = found_at (get_or block (corner + (x + block_side * y)) 0)
 
 -- every node of the stencil that begins at a corner has a place

@@ -1,7 +1,7 @@
 -- Document 01, "Numbers a call answers": the conditions of the table that look at particles, in its order, and the check of the calls whose particles stand in listed
 -- regions. Definitions, and what is proved of them.
 -- Assumes nothing.
-use Rattle.std.specs.Prelude.{◌≡◌, Bool, true, false, not, List, [], ◌∷◌, ◌++◌, ◌⊎◌, ◌↔◌, ℕ, ◌+◌, ◌*◌, ◌≤◌, ◌<◌, length, get_or, eqb, Float}
+use Rattle.std.specs.Prelude.{◌≡◌, Bool, true, false, not, List, [], ◌∷◌, ◌++◌, ◌⊎◌, ◌↔◌, ℕ, ◌+◌, ◌*◌, ◌≤◌, ◌<◌, length, get_or, eqb, Float, None, Option, Some}
 use Rattle.std.specs.Float.{nan}
 use Rattle.std.specs.Float.Ieee.{lt}
 use Rattle.laws.specs.Store.{Store, store, Holds}
@@ -9,12 +9,9 @@ use Rattle.packing.specs.Ids.{dim2, region, stencil_of}
 use Rattle.numeric.specs.Bits.{one}
 use Rattle.cells.specs.Cells.{nearest, greatest_coordinate, in_range, cell_associated_to_point, region_associated_to_point}
 use Rattle.cells.specs.Lookup.{lookup}
-use Rattle.cells.specs.declared.Found.{Found}
-use Rattle.cells.specs.declared.Found.TheVariants.{At, Absent}
-use Rattle.grid.specs.Answers.{refuse, first, first_of}
+use Rattle.grid.specs.Answers.{refuse, first, first_of, Answer}
 use Rattle.grid.specs.Nodes.{node_form, region_cells}
 use Rattle.grid.specs.Table.{all, lengths, node_lengths, limits, finite, good_width, settings, is_flag, region_ids, Regions, words_per_range, start_of, count_of, cover, Covers}
-use Rattle.grid.specs.declared.Answer.{Answer}
 use Rattle.grid.specs.declared.Rule.{Rule}
 use Rattle.grid.specs.declared.Rule.TheVariants.{Length, Limit, Setting, Code, NotFinite, RegionIds, Cover, OffGrid, OutOfRegion, Unlisted}
 use Rattle.particles.specs.Particles.{floats_per_particle, words_per_particle, particle_form, particle_at, position_of}
@@ -49,9 +46,9 @@ out_of_region h r q = not (eqb (region_associated_to_point dim2 h (position_of q
 
 -- ---- 10: a particle's stencil region is not listed
 
-abbrev pub is_at : Found → Bool
-is_at (At k) = true
-is_at Absent = false
+abbrev pub is_at : Option ℕ → Bool
+is_at (Some k) = true
+is_at None = false
 
 abbrev pub listed : List ℕ → ℕ → Bool
 listed ids i = is_at (lookup ids (region i))

@@ -1,4 +1,5 @@
 -- The definitions on values that can be followed by hand. Assumes nothing.
+use Rattle.grid.specs.Answers.{done, refusal}
 use Rattle.std.specs.Prelude.{true, false, List, [], ◌∷◌, ◌++◌, map, ◌≡◌, refl, ℕ, zero, suc, Float}
 use Rattle.std.specs.Float.{nan, inf, binary32}
 use Rattle.std.specs.Float.Ieee.{neg, le, round, div, of_bits, to_bits}
@@ -7,7 +8,6 @@ use Rattle.numeric.specs.Round.{round_away}
 use Rattle.laws.specs.Store.{Store, store}
 use Rattle.laws.specs.Refusals as Refusals
 use Rattle.grid.specs.Table.{finite}
-use Rattle.grid.specs.declared.Answer.TheVariants.{Done, Refused}
 use Rattle.grid.specs.declared.Rule.TheVariants.{Code, NotFinite}
 use Rattle.particles.specs.Particles.{particle_at, put_particle}
 use Rattle.particles.specs.Table.{bad_flag, not_finite, on_axis, off_grid, judged, first_particle, checked}
@@ -45,10 +45,10 @@ pub record Values : Type 0 where
   pub beyond : map (on_axis one) (of_bits binary32 0x3effffff ∷ none ∷ neg one ∷ of_bits binary32 0x47800000 ∷ inf false ∷ nan ∷ []) ≡ false ∷ false ∷ false ∷ false ∷ false ∷ false ∷ []
   pub on_grid : off_grid one (particle_at three 0) ≡ false
   -- each rule by itself: the first record that it refuses, or none; and from a place on
-  pub alone : (first_particle Code one [] 0 three 0 3 ≡ Refused Code 2) × (first_particle NotFinite one [] 0 three 0 3 ≡ Refused NotFinite 1) × (first_particle NotFinite one [] 0 three 2 1 ≡ Done)
+  pub alone : (first_particle Code one [] 0 three 0 3 ≡ refusal Code 2) × (first_particle NotFinite one [] 0 three 0 3 ≡ refusal NotFinite 1) × (first_particle NotFinite one [] 0 three 2 1 ≡ done)
   -- a flag in the third record is found before a NaN in the second
-  pub order : checked one [] [] three 3 ≡ Refused Code 2
-  pub next : checked one [] [] three 2 ≡ Refused NotFinite 1
+  pub order : checked one [] [] three 3 ≡ refusal Code 2
+  pub next : checked one [] [] three 2 ≡ refusal NotFinite 1
 
 pub values : Values
 unfolding particle_at put_particle bad_flag not_finite on_axis off_grid judged first_particle checked finite round_away Refusals.first_of round div le neg of_bits to_bits

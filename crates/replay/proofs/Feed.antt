@@ -1,16 +1,9 @@
--- What it means that a line is `Held`: a line feed stands where it ends. Assumes nothing.
-use Prim.Native.Nat.{ℕ, suc, ◌<◌, min}
-use mathlib.Core.Path.{◌≡◌, refl}
-use mathlib.Core.Bool.{Bool, true, false, cond}
-use mathlib.Core.List.{List, [], ◌∷◌}
-use native.Mathlib.Omega.{arith}
-use lib.ListN.{length, take, drop, get_or, length-take, length-drop}
-use lib.Seq.{get_or-drop, get_or-take}
-use lib.Dec.{eqb}
-use borrow.Author.Tests.{eqb-true}
+-- What it means that a line is `Held`: a line feed stands where it ends, and none in it. Assumes nothing.
+use Rattle.std.proofs.Common.{ℕ, zero, suc, ◌<◌, min, ◌≤◌, ◌-◌, ap, sym, ◌∙◌, take-take, Some, slice_range, ◌≡◌, refl, Bool, true, false, cond, List, [], ◌∷◌, arith, length, take, drop, get_or, length-take, length-drop, get_or-drop, get_or-take, eqb, eqb-true}
+use Rattle.std.proofs.lemmas.Slice.{between_is}
 use Rattle.fields.specs.Read.{before, place_of}
 use Rattle.replay.specs.declared.Place.{Place}
-use Rattle.replay.specs.Lines.{Held}
+use Rattle.replay.specs.Lines.{Held, Question, IsQuestion}
 
 before_at : (b : ℕ) (xs : List ℕ) → before b xs < length xs → get_or xs (before b xs) 0 ≡ b
 unfolding before
@@ -35,3 +28,30 @@ feed left buf p h =
     let l : place_of 10 p.from (take p.have buf) < length (take p.have buf) = rw length-take (omega arith) in
     let e = place_at 10 p.from (take p.have buf) l in
     rw (← h.ended, get_or-take) at e
+
+before_take : (b : ℕ) (xs : List ℕ) (n : ℕ) → n ≤ before b xs → (before b (take n xs) ≡ n) × (length (take n xs) ≡ n)
+unfolding before
+before_take b [] zero h = (refl, refl)
+before_take b [] (suc n) h = absurd (omega arith)
+before_take b (x ∷ xs) zero h = (refl, refl)
+before_take b (x ∷ xs) (suc n) h = go (before_take b xs n) (eqb x b) h
+  where
+    go : (n ≤ before b xs → (before b (take n xs) ≡ n) × (length (take n xs) ≡ n))
+        → (t : Bool) → suc n ≤ cond t 0 (suc (before b xs)) → (cond t 0 (suc (before b (take n xs))) ≡ suc n) × (suc (length (take n xs)) ≡ suc n)
+    go rest true l = absurd (omega arith)
+    go rest false l = let r = rest (omega arith) in (ap suc r.0, ap suc r.1)
+
+pub question : (left : ℕ) (buf : List ℕ) (p : Place) → Question left buf (Some p) → IsQuestion (slice_range buf p.from p.to)
+unfolding place_of
+question left buf p h =
+    let l = h.0 in
+    let o : p.from ≤ p.to = l.ordered in
+    let k : p.to < p.have = l.before in
+    let w : p.have ≤ length buf = l.within in
+    let xs = drop p.from (take p.have buf) in
+    let size : length (take p.have buf) ≡ p.have = rw length-take (omega arith) in
+    let n : before 10 (drop p.from (take p.have buf)) ≡ p.to - p.from = omega (arith, l.ended) in
+    let shorter : p.to - p.from ≤ p.have - p.from = omega arith in
+    let same : slice_range buf p.from p.to ≡ take (p.to - p.from) xs = rw (← between_is buf p.from p.have, take-take) in
+    let r = before_take 10 xs (p.to - p.from) (omega arith) in
+    (rw same (r.0 ∙ sym r.1), rw (between_is buf p.from p.to) h.1)

@@ -1,10 +1,8 @@
 -- Lines in a buffer. Assumes nothing.
-use Rattle.std.specs.Prelude.{ℕ, ◌+◌, ◌-◌, ◌^◌, ◌≤◌, ◌<◌, ◌≡◌, false, List, length, take}
+use Rattle.std.specs.Prelude.{ℕ, ◌+◌, ◌-◌, ◌^◌, ◌≤◌, ◌<◌, ◌≡◌, Option, Some, None, false, List, length, take}
 use Rattle.std.proofs.Math.Seq.{slice}
-use Rattle.fields.specs.Read.{place_of, begins_with}
+use Rattle.fields.specs.Read.{before, place_of, begins_with}
 use Rattle.replay.specs.declared.Place.{Place}
-use Rattle.replay.specs.declared.Input.{Input}
-use Rattle.replay.specs.declared.Input.TheVariants.{Line, End}
 
 -- nothing is read yet
 abbrev pub first : Place
@@ -19,11 +17,15 @@ pub record Held (left : ℕ) (buf : List ℕ) (p : Place) : Type 0 where
   pub within : p.have ≤ length buf
   pub fewer : p.left < left
 
-abbrev pub Holds : ℕ → List ℕ → Input → Type 0
-Holds left buf (Line p) = Held left buf p
-Holds left buf End = Unit
+abbrev pub Holds : ℕ → List ℕ → Option Place → Type 0
+Holds left buf (Some p) = Held left buf p
+Holds left buf None = Unit
 
 -- the same, of a line that is no comment: `#` is 35
-abbrev pub Question : ℕ → List ℕ → Input → Type 0
-Question left buf (Line p) = Held left buf p × (begins_with 35 (slice p.from p.to buf) ≡ false)
-Question left buf End = Unit
+abbrev pub Question : ℕ → List ℕ → Option Place → Type 0
+Question left buf (Some p) = Held left buf p × (begins_with 35 (slice p.from p.to buf) ≡ false)
+Question left buf None = Unit
+
+-- the text of such a line: no line feed is in it, and it does not begin with `#`
+abbrev pub IsQuestion : List ℕ → Type 0
+IsQuestion text = (before 10 text ≡ length text) × (begins_with 35 text ≡ false)

@@ -1,11 +1,5 @@
 -- A node whose id is in no stencil of the particles that a scatter serves is hit by none, and keeps every bit. Assumes nothing.
-use mathlib.Core.Path.{◌≡◌, refl, sym, ap, ap₂, ◌∙◌}
-use mathlib.Core.Bool.{Bool, true, false, cond}
-use mathlib.Core.List.{List, []}
-use Prim.Native.Nat.{ℕ, ◌+◌, ◌*◌, ◌/◌, ◌≤◌, ◌<◌}
-use native.Mathlib.Omega.{arith}
-use lib.Ieee.{Float}
-use lib.ListN.{length, get_or}
+use Rattle.std.proofs.Common.{◌≡◌, refl, sym, ap, ap₂, ◌∙◌, Bool, true, false, cond, List, [], ℕ, ◌+◌, ◌*◌, ◌/◌, ◌≤◌, ◌<◌, arith, Float, length, get_or, None, Option, Some}
 use Rattle.packing.specs.Ids.{dim2, sum, region, number, cell_of, in_colour, packed_shifts, stencil_of}
 use Rattle.packing.specs.Neighbours.{IsCell}
 use Rattle.packing.proofs.Laws.{laws2, plane}
@@ -14,12 +8,9 @@ use Rattle.laws.specs.Hits.{In, only}
 use Rattle.laws.proofs.Hits.{Elsewhere, in_gather, only_none}
 use Rattle.cells.specs.Cells.{cell_associated_to_point}
 use Rattle.cells.specs.Stencil.{stencil_cells}
-use Rattle.cells.specs.declared.Found.{Found}
-use Rattle.cells.specs.declared.Found.TheVariants.{At, Absent}
-use Rattle.grid.specs.Answers.{refused}
+use Rattle.grid.specs.Answers.{refused, done}
 use Rattle.grid.specs.Nodes.{region_cells}
 use Rattle.grid.specs.Table.{start_of, count_of}
-use Rattle.grid.specs.declared.Answer.TheVariants.{Done}
 use Rattle.grid.specs.declared.grid_node.GridNode.{GridNode}
 use Rattle.particles.specs.Particles.{particle_at, position_of}
 use Rattle.particles.specs.declared.particle.Particle.{Particle}
@@ -36,8 +27,8 @@ on_other : (ids : List ℕ) (cell : ℕ) (change : GridNode → GridNode) (r c :
     → In (Elsewhere (r * region_cells + c)) (on_node (node_place ids cell) change)
 on_other ids cell change r c is l other = go (node_place ids cell) refl
   where
-    go : (f : Found) → node_place ids cell ≡ f → In (Elsewhere (r * region_cells + c)) (on_node f change)
-    go (At k) e = (
+    go : (f : Option ℕ) → node_place ids cell ≡ f → In (Elsewhere (r * region_cells + c)) (on_node f change)
+    go (Some k) e = (
       λ same.
           let p = (Placing.laws ids).found cell k e in
           let own : k / region_cells ≡ r = omega (arith, same, l) in
@@ -46,7 +37,7 @@ on_other ids cell change r c is l other = go (node_place ids cell) refl
           other (sym (laws2.rejoined is) ∙ ap₂ (cell_of dim2) stands n),
       tt,
     )
-    go Absent e = tt
+    go None e = tt
 
 -- the id of the k-th cell of a particle's stencil
 abbrev id_at : Float → Particle → ℕ → ℕ
@@ -105,11 +96,11 @@ pub unreached : Unreached
 unfolding scattered region_scattered
 unreached = record {
   full = λ h dt gravity regions ids ranges count particles s e r c u other.
-      let q = ready Done h dt gravity regions ids ranges count particles s.floats s.words (ap refused e) in
+      let q = ready done h dt gravity regions ids ranges count particles s.floats s.words (ap refused e) in
       (scatter_laws h (changed h dt gravity) ids ranges particles s q.ready).untouched (r * region_cells + c)
       (missed h (changed h dt gravity) ids ranges particles s q.ready r c u (λ p k v. other p k (omega (arith, v, q.held.floats_long, q.ready.particles_held.floats_long))));
   region = λ place h dt gravity regions ids ranges count particles s e r c u other.
-      let q = region_ready place (place_check place regions) Done h dt gravity regions ids ranges count particles s.floats s.words refl (sym e) refl in
+      let q = region_ready place (place_check place regions) done h dt gravity regions ids ranges count particles s.floats s.words refl (sym e) refl in
       (region_laws h (changed h dt gravity) ids ranges particles s q.1.ready place q.0).untouched (r * region_cells + c)
       (region_missed h (changed h dt gravity) ids ranges particles place r c u other);
 }

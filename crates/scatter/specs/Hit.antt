@@ -11,10 +11,6 @@ use Rattle.grid.specs.declared.grid_node.GridNode.{GridNode}
 use Rattle.particles.specs.Particles.{position_of}
 use Rattle.particles.specs.declared.particle.Particle.{Particle}
 use Rattle.scatter.specs.declared.particle_to_grid.Contribution.{Contribution}
-use Rattle.scatter.specs.declared.particle_to_grid.Pass.{Pass}
-use Rattle.scatter.specs.declared.particle_to_grid.Pass.TheVariants.{ForAll, ForMass}
-use Rattle.scatter.specs.declared.particle_to_grid.Load.{Load}
-use Rattle.scatter.specs.declared.particle_to_grid.Load.TheVariants.{All, Mass}
 
 -- ---- on any number of axes
 
@@ -156,13 +152,3 @@ weighed_node h dir m shift n =
 
 unfoldable pub weighed : Float → Particle → List ℕ → GridNode → GridNode
 weighed h q = weighed_node h (dir_to_associated_grid_node h (position_of q)) q.mass
-
--- ---- as the code goes by cases: what particles are taken to the nodes for, and what one of them is loaded with for that
-
-abbrev pub changed_for : Float → Pass → Particle → List ℕ → GridNode → GridNode
-changed_for h (ForAll dt gravity) = changed h dt (axes gravity)
-changed_for h ForMass = weighed h
-
-abbrev pub changed_by : Float → List Float → Load → List ℕ → GridNode → GridNode
-changed_by h dir (All dt gravity c) = hit_node h dt (axes gravity) dir (brought_by c)
-changed_by h dir (Mass m) = weighed_node h dir m

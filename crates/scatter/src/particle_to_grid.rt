@@ -1,59 +1,88 @@
 // Scatter, of all regions colour by colour, and of one region.
-ghost use Rattle.std.specs.Prelude.{◌≡◌, [], ◌∷◌, ℕ, ◌+◌, ◌*◌, ◌≤◌, ◌<◌, length};
+ghost use Rattle.std.specs.Prelude.{◌≡◌, List, [], ◌∷◌, Float, ℕ, ◌+◌, ◌*◌, ◌≤◌, ◌<◌, length};
 ghost use Rattle.numeric.specs.Axes.{axes, rows};
 ghost use Rattle.numeric.specs.Bits.{◌⊗◌};
-ghost use Rattle.numeric.specs.Kernel.{inv_d, precompute_weights};
+ghost use Rattle.numeric.specs.Kernel.{inv_d};
 ghost use Rattle.laws.specs.Store.{store, Holds};
 ghost use Rattle.laws.specs.Hits.{run};
 ghost use Rattle.laws.specs.Refusals.{settle};
 ghost use Rattle.cells.specs.Stencil.{dir_to_associated_grid_node};
-ghost use Rattle.grid.specs.Answers.{refused};
-ghost use Rattle.grid.specs.declared.Answer.TheVariants.{Done};
+ghost use Rattle.grid.specs.Answers.{refused, done};
 ghost use Rattle.grid.specs.Nodes.{node_form, nodes};
+ghost use Rattle.grid.specs.declared.grid_node.GridNode.{GridNode};
+ghost use Rattle.particles.specs.declared.particle.Particle.{Particle};
 ghost use Rattle.particles.specs.Particles.{floats_per_particle, words_per_particle, particle_at, position_of};
 ghost use Rattle.particles.specs.Blocks.{found_at, BlockIn, corner_of};
 ghost use Rattle.particles.specs.Table.{OnGrid, Ready};
-ghost use Rattle.scatter.specs.Hit.{stress_of, affine_of, psi_mass_of, body_of, brought, brought_by, hit_node, weighed_node, changed_for, changed_by};
+ghost use Rattle.scatter.specs.Hit.{stress_of, affine_of, psi_mass_of, body_of, brought, brought_by, hit_node, changed, weighed_node, weighed};
 ghost use Rattle.scatter.specs.Scatter.{on_node, region_hits, column_hits, block_hits, near_hits, coloured_hits, colour_hits, scatter_hits, scattered, region_scattered, scatter_check, place_check};
 
 use crate::inner::{check_scatter, scatter_all, scatter_at};
-use cells::Found;
-use cells::inner::{STENCIL_SIDE, dir_to_associated_grid_node, dpt, nearest, step, weight};
+use cells::inner::{STENCIL_SIDE, dpt, step, weight};
 use grid::grid_node::GridNode;
-use grid::inner::{count_of, read_node, start_of, write_node};
+use grid::inner::{count_of, read_node, refuse, start_of, write_node};
 use grid::{Answer, Rule};
 use numeric::dim2::{Matrix, Vector};
 use numeric::inv_exact;
 use packing::dim2::Cell;
-use particles::inner::blocks::{BLOCK_SIDE, block_of, corner_of, found_at};
+use packing::{Plane, Space};
+use particles::inner::blocks::{BLOCK_SIDE, block_of, found_at};
 use particles::inner::read_particle;
+use particles::inner::spot::{Spot, spot_of};
 use particles::particle::Particle;
 
 // The regions' colours, two along each axis.
 const COLORS: u64 = 4;
 
-// What particles are taken to the nodes for: all of a scatter, by its step and gravity, or their mass alone.
+// What particles are taken to the nodes for.
+pub(crate) trait Pass: Copy {
+    // What of a particle is brought to each of its nodes.
+    type Load: Copy;
+
+    // What a particle makes of a node at a shift.
+    ghost changed_for: { Self → Float → Particle → List ℕ → GridNode → GridNode };
+
+    // And what its load does, by the particle's way to its first node.
+    ghost changed_by: { Self → Float → List Float → Self.Load → List ℕ → GridNode → GridNode };
+
+    fn load(self, cell_width: f32, q: Particle) -> Self::Load
+        ensures { changed_by self cell_width (dir_to_associated_grid_node cell_width (position_of q)) result ≡ changed_for self cell_width q };
+
+    fn unload(self, load: Self::Load, at: &Spot, shift: Cell, n: GridNode) -> GridNode
+        requires { (shift.x < 3) × (shift.y < 3) }
+        ensures { result ≡ changed_by self at.now.cell_width (axes at.now.dir) load (shift.x ∷ shift.y ∷ []) n };
+}
+
+// All of a scatter.
 #[derive(Clone, Copy)]
-pub(crate) enum Pass {
-    ForAll(f32, Vector),
-    ForMass,
+pub(crate) struct ForAll {
+    pub(crate) dt: f32,
+    pub(crate) gravity: Vector,
+}
+
+// Mass alone.
+#[derive(Clone, Copy)]
+pub(crate) struct ForMass;
+
+// What a scatter reads.
+#[derive(Clone, Copy)]
+pub(crate) struct Scatter<'a, P> {
+    pub(crate) cell_width: f32,
+    pub(crate) pass: P,
+    pub(crate) ids: &'a [u64],
+    pub(crate) ranges: &'a [u64],
+    pub(crate) pf: &'a [f32],
+    pub(crate) pw: &'a [u32],
 }
 
 // What a particle brings to each node of its stencil in a scatter.
 #[derive(Clone, Copy)]
-struct Contribution {
+pub(crate) struct Contribution {
     mass: f32,
     momentum: Vector,
     affine: Matrix,
     psi_mass: f32,
     psi_momentum: f32,
-}
-
-// What a particle is loaded with in a pass.
-#[derive(Clone, Copy)]
-enum Load {
-    All(f32, Vector, Contribution),
-    Mass(f32),
 }
 
 // Every region's particles, colours 0 to 3 and regions in the list's order; or the call is refused, and nothing changes.
@@ -70,11 +99,11 @@ pub fn particle_to_grid_scatter(
     nf: &mut [f32],
     nw: &mut [u32],
 ) -> Answer
-    ensures { (result ≡ scatter_check Done cell_width dt (axes gravity) regions ids.now ranges.now particles (store pf.now pw.now) (length nf.old) (length nw.old))
+    ensures { (result ≡ scatter_check done cell_width dt (axes gravity) regions ids.now ranges.now particles (store pf.now pw.now) (length nf.old) (length nw.old))
         × (store nf.new nw.new ≡ settle (refused result) (store nf.old nw.old) (scattered cell_width dt (axes gravity) ids.now ranges.now (store pf.now pw.now) (store nf.old nw.old))) }
 {
-    let a = check_scatter(
-        Answer::Done,
+    check_scatter(
+        Ok(()),
         cell_width,
         dt,
         gravity,
@@ -86,12 +115,9 @@ pub fn particle_to_grid_scatter(
         pw,
         nf.len(),
         nw.len(),
-    );
-    let Answer::Done = a else {
-        return a;
-    };
+    )?;
     scatter_all(cell_width, dt, gravity, ids, ranges, pf, pw, nf, nw);
-    Answer::Done
+    Ok(())
 }
 
 // The particles of the region at a place of the list, on every listed node that they hit; or the call is refused, and nothing changes.
@@ -112,7 +138,7 @@ pub fn particle_to_grid_scatter_region(
     ensures { (result ≡ scatter_check (place_check place regions) cell_width dt (axes gravity) regions ids.now ranges.now particles (store pf.now pw.now) (length nf.old) (length nw.old))
         × (store nf.new nw.new ≡ settle (refused result) (store nf.old nw.old) (region_scattered cell_width dt (axes gravity) ids.now ranges.now (store pf.now pw.now) place (store nf.old nw.old))) }
 {
-    let a = check_scatter(
+    check_scatter(
         check_place(place, regions),
         cell_width,
         dt,
@@ -125,294 +151,194 @@ pub fn particle_to_grid_scatter_region(
         pw,
         nf.len(),
         nw.len(),
-    );
-    let Answer::Done = a else {
-        return a;
-    };
+    )?;
     scatter_at(cell_width, dt, gravity, ids, ranges, pf, pw, place, nf, nw);
-    Answer::Done
+    Ok(())
 }
 
 fn check_place(place: usize, regions: usize) -> Answer
     ensures { result ≡ place_check place regions }
 {
-    if place < regions {
-        return Answer::Done;
-    }
-    Answer::Refused(Rule::Code, 0)
+    refuse(!(place < regions), Rule::Code, 0)
 }
 
-pub(crate) fn scatter_colors(
-    cell_width: f32,
-    pass: Pass,
-    ids: &[u64],
-    ranges: &[u64],
-    pf: &[f32],
-    pw: &[u32],
-    nf: &mut [f32],
-    nw: &mut [u32],
-)
-    requires { Ready cell_width ids.now ranges.now (store pf.now pw.now) (store nf.old nw.old) }
-    ensures { store nf.new nw.new ≡ run nodes (scatter_hits cell_width (changed_for cell_width pass) ids.now ranges.now (store pf.now pw.now)) (store nf.old nw.old) }
+pub(crate) fn scatter_colors<P: Pass>(s: &Scatter<P>, nf: &mut [f32], nw: &mut [u32])
+    requires { Ready s.now.cell_width s.now.ids.now s.now.ranges.now (store s.now.pf.now s.now.pw.now) (store nf.old nw.old) }
+    ensures { store nf.new nw.new ≡ run nodes (scatter_hits s.now.cell_width (P.changed_for s.now.pass s.now.cell_width) s.now.ids.now s.now.ranges.now (store s.now.pf.now s.now.pw.now)) (store nf.old nw.old) }
 {
-    let mut color = 0;
-    while color < COLORS {
-        scatter_color(cell_width, pass, ids, ranges, pf, pw, color, nf, nw);
-        color += 1;
+    for color in 0..COLORS {
+        scatter_color(s, color, nf, nw);
     }
 }
 
 // The regions of one colour.
-fn scatter_color(
-    cell_width: f32,
-    pass: Pass,
-    ids: &[u64],
-    ranges: &[u64],
-    pf: &[f32],
-    pw: &[u32],
-    color: u64,
-    nf: &mut [f32],
-    nw: &mut [u32],
-)
-    requires { Ready cell_width ids.now ranges.now (store pf.now pw.now) (store nf.old nw.old) }
-    ensures { store nf.new nw.new ≡ run nodes (colour_hits cell_width (changed_for cell_width pass) ids.now ranges.now (store pf.now pw.now) color) (store nf.old nw.old) }
+fn scatter_color<P: Pass>(s: &Scatter<P>, color: u64, nf: &mut [f32], nw: &mut [u32])
+    requires { Ready s.now.cell_width s.now.ids.now s.now.ranges.now (store s.now.pf.now s.now.pw.now) (store nf.old nw.old) }
+    ensures { store nf.new nw.new ≡ run nodes (colour_hits s.now.cell_width (P.changed_for s.now.pass s.now.cell_width) s.now.ids.now s.now.ranges.now (store s.now.pf.now s.now.pw.now) color) (store nf.old nw.old) }
 {
-    let mut r = 0;
-    while r < ids.len() {
-        scatter_colored(cell_width, pass, ids, ranges, pf, pw, color, r, nf, nw);
-        r += 1;
+    for place in 0..s.ids.len() {
+        scatter_colored(s, color, place, nf, nw);
     }
 }
 
 // The region at a place, where it has the colour.
-fn scatter_colored(
-    cell_width: f32,
-    pass: Pass,
-    ids: &[u64],
-    ranges: &[u64],
-    pf: &[f32],
-    pw: &[u32],
+fn scatter_colored<P: Pass>(
+    s: &Scatter<P>,
     color: u64,
     place: usize,
     nf: &mut [f32],
     nw: &mut [u32],
 )
-    requires { (place < length ids.now) × Ready cell_width ids.now ranges.now (store pf.now pw.now) (store nf.old nw.old) }
-    ensures { store nf.new nw.new ≡ run nodes (coloured_hits cell_width (changed_for cell_width pass) ids.now ranges.now (store pf.now pw.now) color place) (store nf.old nw.old) }
+    requires { (place < length s.now.ids.now) × Ready s.now.cell_width s.now.ids.now s.now.ranges.now (store s.now.pf.now s.now.pw.now) (store nf.old nw.old) }
+    ensures { store nf.new nw.new ≡ run nodes (coloured_hits s.now.cell_width (P.changed_for s.now.pass s.now.cell_width) s.now.ids.now s.now.ranges.now (store s.now.pf.now s.now.pw.now) color place) (store nf.old nw.old) }
 {
-    let id = ids[place];
-    if !packing::dim2::is_in_region_with_color(id, color) {
-        return;
+    if Plane::is_in_region_with_color(s.ids[place], color) {
+        scatter_region(s, place, nf, nw);
     }
-    scatter_region(cell_width, pass, ids, ranges, pf, pw, place, nf, nw);
 }
 
 // The region at a place: the places that its stencils reach are looked for once.
-pub(crate) fn scatter_region(
-    cell_width: f32,
-    pass: Pass,
-    ids: &[u64],
-    ranges: &[u64],
-    pf: &[f32],
-    pw: &[u32],
-    place: usize,
-    nf: &mut [f32],
-    nw: &mut [u32],
-)
-    requires { (place < length ids.now) × Ready cell_width ids.now ranges.now (store pf.now pw.now) (store nf.old nw.old) }
-    ensures { store nf.new nw.new ≡ run nodes (region_hits cell_width (changed_for cell_width pass) ids.now ranges.now (store pf.now pw.now) place) (store nf.old nw.old) }
+pub(crate) fn scatter_region<P: Pass>(s: &Scatter<P>, place: usize, nf: &mut [f32], nw: &mut [u32])
+    requires { (place < length s.now.ids.now) × Ready s.now.cell_width s.now.ids.now s.now.ranges.now (store s.now.pf.now s.now.pw.now) (store nf.old nw.old) }
+    ensures { store nf.new nw.new ≡ run nodes (region_hits s.now.cell_width (P.changed_for s.now.pass s.now.cell_width) s.now.ids.now s.now.ranges.now (store s.now.pf.now s.now.pw.now) place) (store nf.old nw.old) }
 {
-    let start = start_of(ranges, place);
-    let count = count_of(ranges, place);
-    let block = block_of(ids, ids[place]);
-    scatter_particles(cell_width, pass, &block, pf, pw, start, count, nf, nw);
+    let start = start_of(s.ranges, place);
+    let count = count_of(s.ranges, place);
+    let block = block_of(s.ids, s.ids[place]);
+    scatter_particles(s, &block, start, count, nf, nw);
 }
 
 // `count` particles from `start` on, by the places of their region's block.
-fn scatter_particles(
-    cell_width: f32,
-    pass: Pass,
+fn scatter_particles<P: Pass>(
+    s: &Scatter<P>,
     block: &[usize; 36],
-    pf: &[f32],
-    pw: &[u32],
     start: usize,
     count: usize,
     nf: &mut [f32],
     nw: &mut [u32],
 )
-    requires { ((start + count) * floats_per_particle ≤ length pf.now) × ((start + count) * words_per_particle ≤ length pw.now) × BlockIn block.now (length nw.old) × Holds node_form (store nf.old nw.old) (length nw.old)
-        × ((k : ℕ) → k < count → OnGrid cell_width (particle_at (store pf.now pw.now) (start + k))) }
-    ensures { store nf.new nw.new ≡ run nodes (near_hits block.now cell_width (changed_for cell_width pass) (store pf.now pw.now) start count) (store nf.old nw.old) }
+    requires { ((start + count) * floats_per_particle ≤ length s.now.pf.now) × ((start + count) * words_per_particle ≤ length s.now.pw.now) × BlockIn block.now (length nw.old) × Holds node_form (store nf.old nw.old) (length nw.old)
+        × ((k : ℕ) → k < count → OnGrid s.now.cell_width (particle_at (store s.now.pf.now s.now.pw.now) (start + k))) }
+    ensures { store nf.new nw.new ≡ run nodes (near_hits block.now s.now.cell_width (P.changed_for s.now.pass s.now.cell_width) (store s.now.pf.now s.now.pw.now) start count) (store nf.old nw.old) }
 {
-    let mut left = count;
-    while 0 < left {
-        let q = read_particle(pf, pw, start + (count - left));
-        scatter_particle(cell_width, pass, block, q, nf, nw);
-        left -= 1;
+    for k in 0..count {
+        let q = read_particle(s.pf, s.pw, start + k);
+        scatter_particle(s.cell_width, s.pass, block, q, nf, nw);
     }
 }
 
 // One particle, on the nine nodes of its stencil, column by column.
-fn scatter_particle(
+fn scatter_particle<P: Pass>(
     cell_width: f32,
-    pass: Pass,
+    pass: P,
     block: &[usize; 36],
     q: Particle,
     nf: &mut [f32],
     nw: &mut [u32],
 )
     requires { OnGrid cell_width q × BlockIn block.now (length nw.old) × Holds node_form (store nf.old nw.old) (length nw.old) }
-    ensures { store nf.new nw.new ≡ run nodes (block_hits block.now (changed_for cell_width pass q) (corner_of cell_width q)) (store nf.old nw.old) }
+    ensures { store nf.new nw.new ≡ run nodes (block_hits block.now (P.changed_for pass cell_width q) (corner_of cell_width q)) (store nf.old nw.old) }
 {
-    let near = nearest(cell_width, q.position);
-    let dir = dir_to_associated_grid_node(cell_width, near.at, q.position);
-    let load = load_of(cell_width, pass, q);
-    let w = numeric::dim2::precompute_weights(dir, cell_width);
-    let corner = corner_of(near.first);
-    let mut i = 0;
-    while i < STENCIL_SIDE {
-        hit_column(cell_width, block, corner, dir, load, w, step(i), nf, nw);
-        i += 1;
+    let at = spot_of(cell_width, &q);
+    let load = pass.load(cell_width, q);
+    for i in 0..STENCIL_SIDE {
+        hit_column(pass, load, &at, block, step(i), nf, nw);
     }
 }
 
 // The column of a stencil that lies x beyond its first.
-fn hit_column(
-    cell_width: f32,
+fn hit_column<P: Pass>(
+    pass: P,
+    load: P::Load,
+    at: &Spot,
     block: &[usize; 36],
-    corner: usize,
-    dir: Vector,
-    load: Load,
-    w: [[f32; 3]; 2],
     x: u32,
     nf: &mut [f32],
     nw: &mut [u32],
 )
-    requires { (w ≡ precompute_weights (axes dir) cell_width) × (corner < 22) × (x < 3) × BlockIn block.now (length nw.old) × Holds node_form (store nf.old nw.old) (length nw.old) }
-    ensures { store nf.new nw.new ≡ run nodes (column_hits block.now (changed_by cell_width (axes dir) load) corner x) (store nf.old nw.old) }
+    requires { (x < 3) × BlockIn block.now (length nw.old) × Holds node_form (store nf.old nw.old) (length nw.old) }
+    ensures { store nf.new nw.new ≡ run nodes (column_hits block.now (P.changed_by pass at.now.cell_width (axes at.now.dir) load) at.now.corner x) (store nf.old nw.old) }
 {
-    let mut j = 0;
-    while j < STENCIL_SIDE {
+    for j in 0..STENCIL_SIDE {
         let y = step(j);
-        let number = block[corner + (x as usize + BLOCK_SIDE * y as usize)];
-        hit(
-            cell_width,
-            number,
-            dir,
-            load,
-            w,
-            Cell { x: x, y: y },
-            nf,
-            nw,
-        );
-        j += 1;
+        let number = block[at.corner + (x as usize + BLOCK_SIDE * y as usize)];
+        hit(pass, load, at, number, Cell { x, y }, nf, nw);
     }
 }
 
 // The node at a place, as a block numbers it. Its region is listed, as the check has shown; of another there is none, and nothing is hit.
-fn hit(
-    cell_width: f32,
+fn hit<P: Pass>(
+    pass: P,
+    load: P::Load,
+    at: &Spot,
     number: usize,
-    dir: Vector,
-    load: Load,
-    w: [[f32; 3]; 2],
     shift: Cell,
     nf: &mut [f32],
     nw: &mut [u32],
 )
-    requires { (w ≡ precompute_weights (axes dir) cell_width) × (shift.x < 3) × (shift.y < 3) × (number ≤ length nw.old) × Holds node_form (store nf.old nw.old) (length nw.old) }
-    ensures { store nf.new nw.new ≡ run nodes (on_node (found_at number) (changed_by cell_width (axes dir) load (shift.x ∷ shift.y ∷ []))) (store nf.old nw.old) }
+    requires { (shift.x < 3) × (shift.y < 3) × (number ≤ length nw.old) × Holds node_form (store nf.old nw.old) (length nw.old) }
+    ensures { store nf.new nw.new ≡ run nodes (on_node (found_at number) (P.changed_by pass at.now.cell_width (axes at.now.dir) load (shift.x ∷ shift.y ∷ []))) (store nf.old nw.old) }
 {
-    let Found::At(k) = found_at(number) else {
+    let Some(k) = found_at(number) else {
         return;
     };
     let n = read_node(nf, nw, k);
-    write_node(nf, nw, k, unload(cell_width, dir, load, w, shift, n));
+    write_node(nf, nw, k, pass.unload(load, at, shift, n));
 }
 
-// What a load makes of a node.
-fn unload(
-    cell_width: f32,
-    dir: Vector,
-    load: Load,
-    w: [[f32; 3]; 2],
-    shift: Cell,
-    n: GridNode,
-) -> GridNode
-    requires { (w ≡ precompute_weights (axes dir) cell_width) × (shift.x < 3) × (shift.y < 3) }
-    ensures { result ≡ changed_by cell_width (axes dir) load (shift.x ∷ shift.y ∷ []) n }
-{
-    match load {
-        Load::All(dt, gravity, c) => change(cell_width, dt, gravity, dir, c, w, shift, n),
-        Load::Mass(mass) => weigh(cell_width, dir, mass, w, shift, n),
+impl Pass for ForAll {
+    type Load = Contribution;
+
+    ghost changed_for = { λ pass h. changed h pass.dt (axes pass.gravity) };
+
+    ghost changed_by = { λ pass h dir c. hit_node h pass.dt (axes pass.gravity) dir (brought_by c) };
+
+    fn load(self, cell_width: f32, q: Particle) -> Contribution {
+        contribution_of(cell_width, self.dt, q)
+    }
+
+    fn unload(self, c: Contribution, at: &Spot, shift: Cell, n: GridNode) -> GridNode {
+        let ForAll { dt, gravity } = self;
+        let dpt = dpt(at.cell_width, at.dir, shift);
+        let weight = weight(at.weights, shift);
+        let mass = n.mass + weight * c.mass;
+        let momentum = Vector {
+            x: n.momentum.x
+                + weight * ((c.affine.m00 * dpt.x + c.affine.m01 * dpt.y) + c.momentum.x),
+            y: n.momentum.y
+                + weight * ((c.affine.m10 * dpt.x + c.affine.m11 * dpt.y) + c.momentum.y),
+        };
+        let inv = inv_exact(mass);
+        GridNode {
+            mass,
+            momentum,
+            velocity: Vector {
+                x: (momentum.x + (mass * gravity.x) * dt) * inv,
+                y: (momentum.y + (mass * gravity.y) * dt) * inv,
+            },
+            psi_momentum: n.psi_momentum + weight * c.psi_momentum,
+            psi_mass: n.psi_mass + weight * c.psi_mass,
+            ..n
+        }
     }
 }
 
-// What a hit makes of a node in a scatter.
-fn change(
-    cell_width: f32,
-    dt: f32,
-    gravity: Vector,
-    dir: Vector,
-    c: Contribution,
-    w: [[f32; 3]; 2],
-    shift: Cell,
-    n: GridNode,
-) -> GridNode
-    requires { (w ≡ precompute_weights (axes dir) cell_width) × (shift.x < 3) × (shift.y < 3) }
-    ensures { result ≡ hit_node cell_width dt (axes gravity) (axes dir) (brought_by c) (shift.x ∷ shift.y ∷ []) n }
-{
-    let dpt = dpt(cell_width, dir, shift);
-    let weight = weight(w, shift);
-    let mass = n.mass + weight * c.mass;
-    let momentum = Vector {
-        x: n.momentum.x + weight * ((c.affine.m00 * dpt.x + c.affine.m01 * dpt.y) + c.momentum.x),
-        y: n.momentum.y + weight * ((c.affine.m10 * dpt.x + c.affine.m11 * dpt.y) + c.momentum.y),
-    };
-    let inv = inv_exact(mass);
-    GridNode {
-        mass: mass,
-        momentum: momentum,
-        velocity: Vector {
-            x: (momentum.x + (mass * gravity.x) * dt) * inv,
-            y: (momentum.y + (mass * gravity.y) * dt) * inv,
-        },
-        psi_momentum: n.psi_momentum + weight * c.psi_momentum,
-        psi_mass: n.psi_mass + weight * c.psi_mass,
-        boundary: n.boundary,
-    }
-}
+impl Pass for ForMass {
+    type Load = f32;
 
-// What mass alone makes of a node.
-fn weigh(
-    cell_width: f32,
-    dir: Vector,
-    mass: f32,
-    w: [[f32; 3]; 2],
-    shift: Cell,
-    n: GridNode,
-) -> GridNode
-    requires { (w ≡ precompute_weights (axes dir) cell_width) × (shift.x < 3) × (shift.y < 3) }
-    ensures { result ≡ weighed_node cell_width (axes dir) mass (shift.x ∷ shift.y ∷ []) n }
-{
-    let momentum = n.momentum;
-    let velocity = n.velocity;
-    GridNode {
-        mass: n.mass + weight(w, shift) * mass,
-        momentum: momentum,
-        velocity: velocity,
-        psi_momentum: n.psi_momentum,
-        psi_mass: n.psi_mass,
-        boundary: n.boundary,
-    }
-}
+    ghost changed_for = { λ pass h. weighed h };
 
-fn load_of(cell_width: f32, pass: Pass, q: Particle) -> Load
-    ensures { changed_by cell_width (dir_to_associated_grid_node cell_width (position_of q)) result ≡ changed_for cell_width pass q }
-{
-    match pass {
-        Pass::ForAll(dt, gravity) => Load::All(dt, gravity, contribution_of(cell_width, dt, q)),
-        Pass::ForMass => Load::Mass(q.mass),
+    ghost changed_by = { λ pass h dir m. weighed_node h dir m };
+
+    fn load(self, _cell_width: f32, q: Particle) -> f32 {
+        q.mass
+    }
+
+    fn unload(self, mass: f32, at: &Spot, shift: Cell, n: GridNode) -> GridNode {
+        GridNode {
+            mass: n.mass + weight(at.weights, shift) * mass,
+            ..n
+        }
     }
 }
 
@@ -427,7 +353,7 @@ fn contribution_of(cell_width: f32, dt: f32, q: Particle) -> Contribution
             y: q.mass * q.velocity.y,
         },
         affine: affine_of(cell_width, dt, q),
-        psi_mass: psi_mass,
+        psi_mass,
         psi_momentum: psi_mass * q.psi_pos,
     }
 }
@@ -464,7 +390,7 @@ fn stress_of(q: Particle) -> Matrix
 fn psi_mass_of(q: Particle) -> f32
     ensures { result ≡ psi_mass_of (body_of q) }
 {
-    if (0.0 < q.phase) & ((q.crack_propagation_factor != 0.0) & (q.failed == 0)) {
+    if 0.0 < q.phase && q.crack_propagation_factor != 0.0 && q.failed == 0 {
         return q.mass;
     }
     0.0

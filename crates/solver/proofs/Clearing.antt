@@ -1,19 +1,11 @@
 -- Demand 2's last sentence: a node that no stencil reached after clearing is still zero after the update. Assumes nothing.
-use mathlib.Core.Path.{◌≡◌, refl, sym, ap, ap₂, ◌∙◌, subst}
-use mathlib.Core.Logic.{inl, inr}
-use mathlib.Core.List.{List, [], ◌∷◌}
-use Prim.Native.Nat.{ℕ, ◌+◌, ◌*◌, ◌<◌}
-use native.Mathlib.Omega.{arith}
-use lib.Ieee.{Float}
-use lib.ListN.{length}
+use Rattle.std.proofs.Common.{Ok, Err, ◌≡◌, refl, sym, ap, ap₂, ◌∙◌, subst, inl, inr, List, [], ◌∷◌, ℕ, ◌+◌, ◌*◌, ◌<◌, arith, Float, length}
 use Rattle.laws.specs.Store.{Store, Holds}
 use Rattle.laws.specs.Refusals.{settle}
 use Rattle.cells.specs.Stencil.{stencil_cells}
-use Rattle.grid.specs.Answers.{refused}
+use Rattle.grid.specs.Answers.{refused, Answer, done}
 use Rattle.grid.specs.Nodes.{node_form, node_at, region_cells}
 use Rattle.grid.specs.Clear.{clear_check, cleared}
-use Rattle.grid.specs.declared.Answer.{Answer}
-use Rattle.grid.specs.declared.Answer.TheVariants.{Done, Refused}
 use Rattle.grid.proofs.Emptying as Emptying
 use Rattle.grid.proofs.Lengths.{clear_held}
 use Rattle.particles.specs.Table.{Ready}
@@ -42,7 +34,7 @@ module _ (ids : List ℕ) (r c : ℕ) (l : r < length ids) (u : c < region_cells
     zero : Zero (node_at s (r * region_cells + c))
 
   -- the nodes just cleared
-  kept_clear : (regions : ℕ) (s : Store) → clear_check regions ids (length s.floats) (length s.words) ≡ Done → Kept (cleared regions s)
+  kept_clear : (regions : ℕ) (s : Store) → clear_check regions ids (length s.floats) (length s.words) ≡ done → Kept (cleared regions s)
   kept_clear regions s e =
       let n = counted regions ids (length s.floats) (length s.words) e in
       let laws = Emptying.laws regions s (clear_held regions ids s.floats s.words (ap refused e)) in
@@ -52,12 +44,12 @@ module _ (ids : List ℕ) (r c : ℕ) (l : r < length ids) (u : c < region_cells
       }
 
   kept_scatter : (g : Scatter) (s : Store) → Kept s
-      → scatter_check Done g.h g.dt g.gravity g.regions ids g.ranges g.count g.particles (length s.floats) (length s.words) ≡ Done
+      → scatter_check done g.h g.dt g.gravity g.regions ids g.ranges g.count g.particles (length s.floats) (length s.words) ≡ done
       → ((p k : ℕ) → p < g.count → k < stencil_cells → stencil_id g.h g.particles p k ≡ node_id ids r c → ⊥)
       → Kept (scattered g.h g.dt g.gravity ids g.ranges g.particles s)
   unfolding scattered
   kept_scatter g s kept e other =
-      let q = ready Done g.h g.dt g.gravity g.regions ids g.ranges g.count g.particles s.floats s.words (ap refused e) in
+      let q = ready done g.h g.dt g.gravity g.regions ids g.ranges g.count g.particles s.floats s.words (ap refused e) in
       record {
         held = (scatter_laws g.h (changed g.h g.dt g.gravity) ids g.ranges g.particles s q.ready).held;
         zero = subst Zero (sym (unreached.full g.h g.dt g.gravity g.regions ids g.ranges g.count g.particles s e r c u other)) kept.zero;
@@ -69,7 +61,7 @@ module _ (ids : List ℕ) (r c : ℕ) (l : r < length ids) (u : c < region_cells
       record { held = laws.held; zero = laws.zero_stays r c l u kept.zero }
 
   -- fluids leave every node as it was but for its mass, which is +0
-  kept_fluids : (g : Fluids) (s : Store) → Kept s → fluids_check g.h g.regions ids g.ranges g.count g.particles (length s.floats) (length s.words) ≡ Done
+  kept_fluids : (g : Fluids) (s : Store) → Kept s → fluids_check g.h g.regions ids g.ranges g.count g.particles (length s.floats) (length s.words) ≡ done
       → Kept (nodes_after g.h ids g.ranges g.count g.particles s)
   kept_fluids g s kept e =
       let q = Recomputing.ready g.h g.regions ids g.ranges g.count g.particles s.floats s.words (ap refused e) in
@@ -81,13 +73,13 @@ module _ (ids : List ℕ) (r c : ℕ) (l : r < length ids) (u : c < region_cells
 
 -- what is asked of the nodes' lengths alone holds of as many other nodes
 other_nodes : (check : ℕ → ℕ → Answer) (s t : Store) (n : ℕ) → Holds node_form s n → Holds node_form t n
-    → check (length s.floats) (length s.words) ≡ Done → check (length t.floats) (length t.words) ≡ Done
+    → check (length s.floats) (length s.words) ≡ done → check (length t.floats) (length t.words) ≡ done
 other_nodes check s t n p q e = ap₂ check (q.floats_long ∙ sym p.floats_long) (q.words_long ∙ sym p.words_long) ∙ e
 
 -- ---- the three in turn
 
 module _ (h dt : Float) (gravity : List Float) (code locks regions : ℕ) (ids ranges : List ℕ) (count : ℕ) (particles : Store) (colliders : ℕ) (frictions : List Float) (projections s : Store)
-    (e : step_check h dt gravity code locks regions ids ranges count particles colliders frictions projections (length s.floats) (length s.words) ≡ Done) where
+    (e : step_check h dt gravity code locks regions ids ranges count particles colliders frictions projections (length s.floats) (length s.words) ≡ done) where
   abbrev places : ℕ
   places = length ids * region_cells
 
@@ -97,12 +89,12 @@ module _ (h dt : Float) (gravity : List Float) (code locks regions : ℕ) (ids r
   abbrev full : Store
   full = scattered h dt gravity ids ranges particles empty
 
-  three : (clear_check regions ids (length s.floats) (length s.words) ≡ Done)
-      × (scatter_check Done h dt gravity regions ids ranges count particles (length s.floats) (length s.words) ≡ Done)
-      × (update_check h dt code locks regions ids colliders frictions projections (length s.floats) (length s.words) ≡ Done)
+  three : (clear_check regions ids (length s.floats) (length s.words) ≡ done)
+      × (scatter_check done h dt gravity regions ids ranges count particles (length s.floats) (length s.words) ≡ done)
+      × (update_check h dt code locks regions ids colliders frictions projections (length s.floats) (length s.words) ≡ done)
   three = apart_done h dt gravity code locks regions ids ranges count particles colliders frictions projections (length s.floats) (length s.words) e
 
-  pub clear_done : clear_check regions ids (length s.floats) (length s.words) ≡ Done
+  pub clear_done : clear_check regions ids (length s.floats) (length s.words) ≡ done
   clear_done = three.0
 
   -- as many nodes each time
@@ -115,18 +107,18 @@ module _ (h dt : Float) (gravity : List Float) (code locks regions : ℕ) (ids r
       rw n (Emptying.laws regions s (rw n at room)).holds
 
   -- so each is accepted
-  scatter_done : scatter_check Done h dt gravity regions ids ranges count particles (length empty.floats) (length empty.words) ≡ Done
-  scatter_done = other_nodes (scatter_check Done h dt gravity regions ids ranges count particles) s empty places room empty_room three.1
+  scatter_done : scatter_check done h dt gravity regions ids ranges count particles (length empty.floats) (length empty.words) ≡ done
+  scatter_done = other_nodes (scatter_check done h dt gravity regions ids ranges count particles) s empty places room empty_room three.1
 
   -- what is behind the scatter's check may build on it, of as many nodes
   pub scatter_ready : Ready h ids ranges particles s
-  scatter_ready = (ready Done h dt gravity regions ids ranges count particles s.floats s.words (ap refused three.1)).ready
+  scatter_ready = (ready done h dt gravity regions ids ranges count particles s.floats s.words (ap refused three.1)).ready
 
   full_room : Holds node_form full places
   unfolding scattered
   full_room = (scatter_laws h (changed h dt gravity) ids ranges particles empty (still_ready h ids ranges particles s empty scatter_ready empty_room)).held
 
-  update_done : update_check h dt code locks regions ids colliders frictions projections (length full.floats) (length full.words) ≡ Done
+  update_done : update_check h dt code locks regions ids colliders frictions projections (length full.floats) (length full.words) ≡ done
   update_done = other_nodes (update_check h dt code locks regions ids colliders frictions projections) s full places room full_room three.2
 
   kept_step : (r c : ℕ) (l : r < length ids) (u : c < region_cells)
@@ -142,28 +134,28 @@ module _ (h dt : Float) (gravity : List Float) (code locks regions : ℕ) (ids r
   step r c l u other = (kept_step r c l u other).zero
 
   -- the calls by their contracts, of which the first is done
-  pub in_turn_lem : (t u v : Store) (a d : Answer) → a ≡ Done → t ≡ settle (refused a) s (cleared regions s) → u ≡ scattered h dt gravity ids ranges particles t
+  pub in_turn_lem : (t u v : Store) (a d : Answer) → a ≡ done → t ≡ settle (refused a) s (cleared regions s) → u ≡ scattered h dt gravity ids ranges particles t
       → d ≡ update_check h dt code locks regions ids colliders frictions projections (length u.floats) (length u.words)
       → v ≡ settle (refused d) u (updated h dt code locks ids colliders frictions projections u)
-      → (d ≡ Done) × (v ≡ stepped h dt gravity code locks regions ids ranges count particles colliders frictions projections s)
+      → (d ≡ done) × (v ≡ stepped h dt gravity code locks regions ids ranges count particles colliders frictions projections s)
   unfolding stepped
   in_turn_lem t u v a d p clears scatters w updates =
       let first : t ≡ empty = clears ∙ rw p in
       let second : u ≡ full = scatters ∙ rw first in
-      let third : d ≡ Done = w ∙ rw second update_done in
+      let third : d ≡ done = w ∙ rw second update_done in
       (third, updates ∙ rw (third, second))
 
 -- ---- any of the calls
 
 module _ (ids : List ℕ) (r c : ℕ) (l : r < length ids) (u : c < region_cells) where
   -- a call that is accepted and does not reach the node
-  kept_made : (call : Call) (s : Store) → Kept ids r c l u s → answer ids call s ≡ Done → (Reaches ids s call (node_id ids r c) → ⊥) → Kept ids r c l u (made ids call s)
+  kept_made : (call : Call) (s : Store) → Kept ids r c l u s → answer ids call s ≡ done → (Reaches ids s call (node_id ids r c) → ⊥) → Kept ids r c l u (made ids call s)
   unfolding region_scattered
   kept_made (clearing regions) s kept e other = kept_clear ids r c l u regions s e
   kept_made (scattering g) s kept e other =
       kept_scatter ids r c l u g s kept e (λ p k v w i. other (record { accepted = e; particle = p; shift = k; served = v; within = w; there = i }))
   kept_made (scattering_region place g) s kept e other =
-      let q = region_ready place (place_check place g.regions) Done g.h g.dt g.gravity g.regions ids g.ranges g.count g.particles s.floats s.words refl (sym e) refl in
+      let q = region_ready place (place_check place g.regions) done g.h g.dt g.gravity g.regions ids g.ranges g.count g.particles s.floats s.words refl (sym e) refl in
       record {
         held = (region_laws g.h (changed g.h g.dt g.gravity) ids g.ranges g.particles s q.1.ready place q.0).held;
         zero = subst Zero
@@ -190,8 +182,8 @@ module _ (ids : List ℕ) (r c : ℕ) (l : r < length ids) (u : c < region_cells
   kept_left call s kept other = go (answer ids call s) refl
     where
       go : (a : Answer) → answer ids call s ≡ a → Kept ids r c l u (settle (refused a) s (made ids call s))
-      go Done e = kept_made call s kept e other
-      go (Refused rule k) e = kept
+      go (Ok u) e = kept_made call s kept e other
+      go (Err x) e = kept
 
   kept_after : (calls : List Call) (s : Store) → Kept ids r c l u s → (Reached ids calls s (node_id ids r c) → ⊥) → Kept ids r c l u (after ids calls s)
   unfolding after

@@ -1,16 +1,9 @@
 -- Demand 3, about the calls. Assumes nothing.
-use mathlib.Core.Path.{◌≡◌, refl, sym, ap, ◌∙◌}
-use mathlib.Core.Bool.{Bool, true, false, cond}
-use mathlib.Core.List.{List, [], ◌∷◌, ◌++◌}
-use Prim.Native.Nat.{ℕ, zero, suc, ◌*◌, ◌≤◌}
-use native.Mathlib.Omega.{arith}
-use lib.ListN.{length}
+use Rattle.std.proofs.Common.{Ok, Err, ◌≡◌, refl, sym, ap, ◌∙◌, Bool, true, false, cond, List, [], ◌∷◌, ◌++◌, ℕ, zero, suc, ◌*◌, ◌≤◌, arith, length}
 use Rattle.laws.specs.Store.{Store, Holds}
 use Rattle.laws.specs.Refusals.{settle}
-use Rattle.grid.specs.Answers.{refused}
+use Rattle.grid.specs.Answers.{refused, Answer, done}
 use Rattle.grid.specs.Nodes.{node_form, region_cells}
-use Rattle.grid.specs.declared.Answer.{Answer}
-use Rattle.grid.specs.declared.Answer.TheVariants.{Done, Refused}
 use Rattle.particles.proofs.Staging.{Staged, still_ready}
 use Rattle.scatter.specs.Hit.{changed}
 use Rattle.scatter.specs.Scatter.{region_scattered}
@@ -31,7 +24,7 @@ module _ (ids : List ℕ) where
   after_more [] y s = refl
   after_more (x ∷ xs) y s = after_more xs y (left ids x s)
 
-  left_done : (x : Call) (s : Store) → answer ids x s ≡ Done → left ids x s ≡ made ids x s
+  left_done : (x : Call) (s : Store) → answer ids x s ≡ done → left ids x s ≡ made ids x s
   unfolding left
   left_done x s e = rw e
 
@@ -43,10 +36,10 @@ module _ (ids : List ℕ) where
     where
       go : (a : Answer) → answer ids x s ≡ a → ((t : Store) → after ids xs t ≡ after ids (accepted ids xs t) t)
           → let t = settle (refused a) s (made ids x s) in after ids xs t ≡ after ids (cond (refused a) (accepted ids xs t) (x ∷ accepted ids xs t)) s
-      go Done e later = later (made ids x s) ∙ ap (after ids (accepted ids xs (made ids x s))) (sym (left_done x s e))
-      go (Refused r k) e later = later s
+      go (Ok u) e later = later (made ids x s) ∙ ap (after ids (accepted ids xs (made ids x s))) (sym (left_done x s e))
+      go (Err x) e later = later s
 
-  accepted_more : (xs : List Call) (y : Call) (s : Store) → answer ids y (after ids xs s) ≡ Done → accepted ids (xs ++ (y ∷ [])) s ≡ accepted ids xs s ++ (y ∷ [])
+  accepted_more : (xs : List Call) (y : Call) (s : Store) → answer ids y (after ids xs s) ≡ done → accepted ids (xs ++ (y ∷ [])) s ≡ accepted ids xs s ++ (y ∷ [])
   unfolding after accepted
   accepted_more [] y s d = rw d
   accepted_more (x ∷ xs) y s d = rw (accepted_more xs y (left ids x s) d) (go (refused (answer ids x s)))
@@ -57,17 +50,17 @@ module _ (ids : List ℕ) where
 
 -- ---- the regions' own
 
-module _ (ids order : List ℕ) (c : Scatter) (s : Store) (full : answer ids (scattering c) s ≡ Done) (turns-so : Turns ids order) where
-  in_turn_lem : turns ids order ≡ Done
+module _ (ids order : List ℕ) (c : Scatter) (s : Store) (full : answer ids (scattering c) s ≡ done) (turns-so : Turns ids order) where
+  in_turn_lem : turns ids order ≡ done
   in_turn_lem = let_through ids order turns-so.as_long turns-so.in_turn_lem
 
-  shown : Staged Done c.h c.regions ids c.ranges c.count c.particles s
-  shown = ready Done c.h c.dt c.gravity c.regions ids c.ranges c.count c.particles s.floats s.words (ap refused full)
+  shown : Staged done c.h c.regions ids c.ranges c.count c.particles s
+  shown = ready done c.h c.dt c.gravity c.regions ids c.ranges c.count c.particles s.floats s.words (ap refused full)
 
   as_long : length order ≡ c.regions
   as_long = turns-so.as_long ∙ shown.counted
 
-  ordered : order_check order c.h c.dt c.gravity c.regions ids c.ranges c.count c.particles (length s.floats) (length s.words) ≡ Done
+  ordered : order_check order c.h c.dt c.gravity c.regions ids c.ranges c.count c.particles (length s.floats) (length s.words) ≡ done
   ordered = then_scatter order c.h c.dt c.gravity c.regions ids c.ranges c.count c.particles (length s.floats) (length s.words) as_long in_turn_lem full
 
   -- what the first n leave, of as many nodes as before, and that the next one is accepted
@@ -85,7 +78,7 @@ module _ (ids order : List ℕ) (c : Scatter) (s : Store) (full : answer ids (sc
       let u = still_ready c.h ids c.ranges c.particles s t shown.ready f.held in
       let next = scattering_region (place_at order n) c in
       let room = shown.ready.nodes_held in
-      let done : answer ids next t ≡ Done =
+      let done : answer ids next t ≡ done =
       region_accepted order c.h c.dt c.gravity c.regions ids c.ranges c.count c.particles s t n ordered
       (f.held.floats_long ∙ sym room.floats_long) (f.held.words_long ∙ sym room.words_long) (omega (arith, l)) in
       record {
@@ -106,13 +99,13 @@ module _ (ids order : List ℕ) (c : Scatter) (s : Store) (full : answer ids (sc
 
 -- ---- all of them in one call
 
-module _ (ids order : List ℕ) (c : Scatter) (s : Store) (one : answer ids (scattering_in_order order c) s ≡ Done) where
+module _ (ids order : List ℕ) (c : Scatter) (s : Store) (one : answer ids (scattering_in_order order c) s ≡ done) where
   the_order : Turned order c.h c.dt c.gravity c.regions ids c.ranges c.count c.particles (length s.floats) (length s.words)
   the_order = turned order c.h c.dt c.gravity c.regions ids c.ranges c.count c.particles (length s.floats) (length s.words) one
 
   such : Turns ids order
   such =
-      let counted = (ready Done c.h c.dt c.gravity c.regions ids c.ranges c.count c.particles s.floats s.words (ap refused the_order.accepted)).counted in
+      let counted = (ready done c.h c.dt c.gravity c.regions ids c.ranges c.count c.particles s.floats s.words (ap refused the_order.accepted)).counted in
       let long = the_order.as_long ∙ sym counted in
       record { as_long = long; in_turn_lem = turning ids order the_order.in_turn_lem long }
 

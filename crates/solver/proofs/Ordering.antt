@@ -1,17 +1,11 @@
 -- The regions' scatters in an order in which each stands once and colours come in turn leave what the full scatter leaves. Assumes nothing.
-use mathlib.Core.Path.{◌≡◌, refl, sym, ap, ◌∙◌}
-use mathlib.Core.List.{List}
-use Prim.Native.Nat.{ℕ, zero, suc, ◌*◌}
-use native.Mathlib.Numerals.{add-one}
-use lib.Ieee.{Float}
-use lib.ListN.{length}
+use Rattle.std.proofs.Common.{◌≡◌, refl, sym, ap, ◌∙◌, List, ℕ, zero, suc, ◌*◌, add-one, Float, length}
 use Rattle.laws.specs.Store.{Store}
 use Rattle.laws.specs.Hits.{run, gather}
 use Rattle.laws.proofs.Hits.{run_none, run_more}
 use Rattle.laws.proofs.Orders.{laws}
-use Rattle.grid.specs.Answers.{refused}
+use Rattle.grid.specs.Answers.{refused, done}
 use Rattle.grid.specs.Nodes.{nodes, region_cells, stores}
-use Rattle.grid.specs.declared.Answer.TheVariants.{Done}
 use Rattle.grid.proofs.Changing.{kept}
 use Rattle.scatter.specs.Hit.{changed}
 use Rattle.scatter.specs.Scatter.{colours, region_hits, coloured_hits, colour_hits, scatter_hits, scattered, region_scattered, scatter_check}
@@ -30,12 +24,12 @@ module _ (h dt : Float) (gravity : List Float) (ids ranges : List ℕ) (particle
       rw add-one at (run_more nodes (λ i. region_hits h (changed h dt gravity) ids ranges particles (place_at order i)) n s (gathered n s) refl)
 
 pub same_bits : (order : List ℕ) (h dt : Float) (gravity : List Float) (regions : ℕ) (ids ranges : List ℕ) (count : ℕ) (particles s : Store)
-    → scatter_check Done h dt gravity regions ids ranges count particles (length s.floats) (length s.words) ≡ Done
-    → length order ≡ regions → turns ids order ≡ Done
+    → scatter_check done h dt gravity regions ids ranges count particles (length s.floats) (length s.words) ≡ done
+    → length order ≡ regions → turns ids order ≡ done
     → in_order h dt gravity ids ranges particles order (length order) s ≡ scattered h dt gravity ids ranges particles s
 unfolding scattered scatter_hits colour_hits coloured_hits
 same_bits order h dt gravity regions ids ranges count particles s accepted long e =
-    let r = ready Done h dt gravity regions ids ranges count particles s.floats s.words (ap refused accepted) in
+    let r = ready done h dt gravity regions ids ranges count particles s.floats s.words (ap refused accepted) in
     let n : length order ≡ length ids = long ∙ sym r.counted in
     gathered h dt gravity ids ranges particles order (length order) s
     ∙ rw n

@@ -1,18 +1,10 @@
 -- Clear, scatter and update in turn are refused for nothing exactly where none of the three is. Assumes nothing.
-use mathlib.Core.Path.{◌≡◌, refl, ◌∙◌}
-use mathlib.Core.Bool.{Bool, true, ◌&&◌, and-true}
-use mathlib.Core.List.{List, [], ◌∷◌, ◌++◌}
-use Prim.Native.Nat.{ℕ, ◌*◌}
-use lib.Dec.{eqb}
-use lib.Ieee.{Float}
-use lib.ListN.{length}
-use borrow.Author.Tests.{eqb-true}
+use Rattle.std.proofs.Common.{◌≡◌, refl, ◌∙◌, Bool, true, ◌&&◌, List, [], ◌∷◌, ◌++◌, ℕ, ◌*◌, eqb, Float, length, eqb-true}
+use Rattle.std.proofs.Math.Bool.{and-true}
 use Rattle.laws.specs.Store.{Store}
-use Rattle.grid.specs.Answers.{unless}
+use Rattle.grid.specs.Answers.{unless, Answer, done}
 use Rattle.grid.specs.Table.{all, matches, lengths, node_lengths, limits, finite, good_width, good_step, settings, called, flags, numbers, region_ids, words_per_range}
 use Rattle.grid.specs.Clear.{clear_check}
-use Rattle.grid.specs.declared.Answer.{Answer}
-use Rattle.grid.specs.declared.Answer.TheVariants.{Done}
 use Rattle.grid.specs.declared.Rule.TheVariants.{Length, Limit, Setting, Code, NotFinite}
 use Rattle.grid.proofs.Steps.{called_then}
 use Rattle.particles.specs.Particles.{floats_per_particle, words_per_particle}
@@ -49,8 +41,8 @@ module _ (h dt : Float) (gravity : List Float) (code locks regions : ℕ) (ids r
       first_particle Code h ids 0 particles 0 count ∷ flags projections.words ∷ first_particle NotFinite h ids 0 particles 0 count ∷ numbers collider_floats frictions
       ∷ numbers projection_floats projections.floats ∷ placed h ids ranges particles count ∷ []
 
-  pub apart_done : step_check h dt gravity code locks regions ids ranges count particles colliders frictions projections nf nw ≡ Done
-      → (clear_check regions ids nf nw ≡ Done) × (scatter_check Done h dt gravity regions ids ranges count particles nf nw ≡ Done) × (update_check h dt code locks regions ids colliders frictions projections nf nw ≡ Done)
+  pub apart_done : step_check h dt gravity code locks regions ids ranges count particles colliders frictions projections nf nw ≡ done
+      → (clear_check regions ids nf nw ≡ done) × (scatter_check done h dt gravity regions ids ranges count particles nf nw ≡ done) × (update_check h dt code locks regions ids colliders frictions projections nf nw ≡ done)
   unfolding step_check records_check clear_check scatter_check checked update_check given
   apart_done e =
       let step = each_done of_step e in
@@ -59,7 +51,7 @@ module _ (h dt : Float) (gravity : List Float) (code locks regions : ℕ) (ids r
       let s = each_holds holds Setting true refl (scatter_settings h dt gravity) (step 2) in
       let r = each_done of_records (step 4) in
       let i = ids_placed h ids ranges count particles (r 5) in
-      let scatter : scatter_check Done h dt gravity regions ids ranges count particles nf nw ≡ Done
+      let scatter : scatter_check done h dt gravity regions ids ranges count particles nf nw ≡ done
       = all_done (of_scatter h dt gravity regions ids ranges count particles nf nw)
       (all_hold fits Length (scatter_lengths regions ids ranges count particles nf nw) (l 0, (l 1, (l 2, (l 3, (l 7, (l 8, tt)))))), (all_hold limited Limit (counts regions count 0) (m 0, (m 1, (refl, tt))), (step 2, (refl, (all_done (of_particles h ids ranges count particles) (r 0, (r 2, (r 5, tt))), tt))))) in (
         clear_done h dt gravity regions ids ranges count particles nf nw scatter,
@@ -68,8 +60,8 @@ module _ (h dt : Float) (gravity : List Float) (code locks regions : ℕ) (ids r
             (all_hold fits Length update_lengths (l 0, (l 4, (l 5, (l 6, (l 7, (l 8, tt)))))), (all_hold limited Limit (counts regions 0 colliders) (m 0, (refl, (m 2, tt))), (all_hold holds Setting update_settings (s 0, (s 1, tt)), (step 3, (all_done of_projections (r 1, (r 3, (r 4, (i, tt)))), tt))))),
       )
 
-  pub step_done : (scatter_check Done h dt gravity regions ids ranges count particles nf nw ≡ Done) → (update_check h dt code locks regions ids colliders frictions projections nf nw ≡ Done)
-      → step_check h dt gravity code locks regions ids ranges count particles colliders frictions projections nf nw ≡ Done
+  pub step_done : (scatter_check done h dt gravity regions ids ranges count particles nf nw ≡ done) → (update_check h dt code locks regions ids colliders frictions projections nf nw ≡ done)
+      → step_check h dt gravity code locks regions ids ranges count particles colliders frictions projections nf nw ≡ done
   unfolding step_check records_check scatter_check checked update_check given
   step_done e f =
       let scatter = each_done (of_scatter h dt gravity regions ids ranges count particles nf nw) e in

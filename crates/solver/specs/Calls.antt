@@ -3,10 +3,8 @@
 use Rattle.std.specs.Prelude.{cond, List, [], ◌∷◌, ℕ, Float, length}
 use Rattle.laws.specs.Store.{Store}
 use Rattle.laws.specs.Refusals.{settle}
-use Rattle.grid.specs.Answers.{refused}
+use Rattle.grid.specs.Answers.{refused, Answer, done}
 use Rattle.grid.specs.Clear.{clear_check, cleared}
-use Rattle.grid.specs.declared.Answer.{Answer}
-use Rattle.grid.specs.declared.Answer.TheVariants.{Done}
 use Rattle.scatter.specs.Scatter.{scattered, region_scattered, place_check, scatter_check}
 use Rattle.update.specs.Update.{updated, update_check}
 use Rattle.gather.specs.Gather.{first_check, second_check}
@@ -77,7 +75,7 @@ module _ (ids : List ℕ) where
   -- what a call answers, by its contract
   abbrev pub answer : Call → Store → Answer
   answer (clearing regions) s = clear_check regions ids (length s.floats) (length s.words)
-  answer (scattering c) s = scatter_check Done c.h c.dt c.gravity c.regions ids c.ranges c.count c.particles (length s.floats) (length s.words)
+  answer (scattering c) s = scatter_check done c.h c.dt c.gravity c.regions ids c.ranges c.count c.particles (length s.floats) (length s.words)
   answer (scattering_region place c) s =
       scatter_check (place_check place c.regions) c.h c.dt c.gravity c.regions ids c.ranges c.count c.particles (length s.floats) (length s.words)
   answer (scattering_in_order order c) s = order_check order c.h c.dt c.gravity c.regions ids c.ranges c.count c.particles (length s.floats) (length s.words)

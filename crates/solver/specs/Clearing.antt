@@ -1,13 +1,13 @@
 -- Demand 2 of the request, its last sentence: "with one region list throughout and no host write to nodes between the calls, a node that no stencil reached after clearing
 -- still has zero mass, momentum and velocity after the grid update". Definitions, and what is proved of them.
 -- Assumes nothing.
+use Rattle.grid.specs.Answers.{done}
 use Rattle.std.specs.Prelude.{◌≡◌, ◌⊎◌, ◌↔◌, List, [], ◌∷◌, ℕ, ◌+◌, ◌*◌, ◌≤◌, ◌<◌, Float, length}
 use Rattle.laws.specs.Store.{Store}
 use Rattle.cells.specs.Stencil.{stencil_cells}
 use Rattle.grid.specs.Nodes.{node_at, region_cells}
 use Rattle.grid.specs.Table.{start_of, count_of}
 use Rattle.grid.specs.Clear.{clear_check, cleared}
-use Rattle.grid.specs.declared.Answer.TheVariants.{Done}
 use Rattle.scatter.specs.Scatter.{scatter_check, stencil_id, node_id}
 use Rattle.update.specs.Update.{update_check, Zero}
 use Rattle.solver.specs.Step.{step_check, stepped}
@@ -42,7 +42,7 @@ id_of (recomputing c) p k = 0
 
 -- an accepted call takes a particle to the id
 pub record Reaches (ids : List ℕ) (s : Store) (call : Call) (id : ℕ) : Type 0 where
-  pub accepted : answer ids call s ≡ Done
+  pub accepted : answer ids call s ≡ done
   pub particle : ℕ
   pub shift : ℕ
   pub served : Served call particle
@@ -64,17 +64,17 @@ EmptyElsewhere h ids count particles s =
 pub record Demand2 : Type 0 where
   -- After clear and any list of calls, refused ones included, a node that none of them reached is zero.
   pub unreached : (regions : ℕ) (ids : List ℕ) (calls : List Call) (s : Store) (r c : ℕ)
-      → clear_check regions ids (length s.floats) (length s.words) ≡ Done
+      → clear_check regions ids (length s.floats) (length s.words) ≡ done
       → r < length ids → c < region_cells
       → (Reached ids calls (cleared regions s) (node_id ids r c) → ⊥)
       → Zero (node_at (after ids calls (cleared regions s)) (r * region_cells + c))
   -- The three in turn are accepted exactly where each of them is, whatever the nodes hold,
   pub accepted : (h dt : Float) (gravity : List Float) (code locks regions : ℕ) (ids ranges : List ℕ) (count : ℕ) (particles : Store) (colliders : ℕ) (frictions : List Float) (projections : Store) (nf nw : ℕ)
-      → (step_check h dt gravity code locks regions ids ranges count particles colliders frictions projections nf nw ≡ Done)
-      ↔ ((clear_check regions ids nf nw ≡ Done)
-      × (scatter_check Done h dt gravity regions ids ranges count particles nf nw ≡ Done)
-      × (update_check h dt code locks regions ids colliders frictions projections nf nw ≡ Done))
+      → (step_check h dt gravity code locks regions ids ranges count particles colliders frictions projections nf nw ≡ done)
+      ↔ ((clear_check regions ids nf nw ≡ done)
+      × (scatter_check done h dt gravity regions ids ranges count particles nf nw ≡ done)
+      × (update_check h dt code locks regions ids colliders frictions projections nf nw ≡ done))
   -- and leave every node zero that no particle's stencil reached.
   pub step : (h dt : Float) (gravity : List Float) (code locks regions : ℕ) (ids ranges : List ℕ) (count : ℕ) (particles : Store) (colliders : ℕ) (frictions : List Float) (projections s : Store)
-      → step_check h dt gravity code locks regions ids ranges count particles colliders frictions projections (length s.floats) (length s.words) ≡ Done
+      → step_check h dt gravity code locks regions ids ranges count particles colliders frictions projections (length s.floats) (length s.words) ≡ done
       → EmptyElsewhere h ids count particles (stepped h dt gravity code locks regions ids ranges count particles colliders frictions projections s)

@@ -5,10 +5,8 @@ use Rattle.std.specs.Prelude.{◌≡◌, Bool, false, ◌||◌, not, List, [], �
 use Rattle.packing.specs.Ids.{dim2, colour}
 use Rattle.laws.specs.Store.{Store}
 use Rattle.laws.specs.Orders.{InTurn}
-use Rattle.grid.specs.Answers.{refuse, first, first_of}
+use Rattle.grid.specs.Answers.{refuse, first, first_of, Answer, done}
 use Rattle.grid.specs.Table.{lengths}
-use Rattle.grid.specs.declared.Answer.{Answer}
-use Rattle.grid.specs.declared.Answer.TheVariants.{Done}
 use Rattle.grid.specs.declared.Rule.TheVariants.{Code}
 use Rattle.scatter.specs.Scatter.{colours, scattered, region_scattered, place_check, scatter_check}
 
@@ -55,15 +53,15 @@ module _ (h dt : Float) (gravity : List Float) (ids ranges : List ℕ) (particle
 
 pub record Laws : Type 0 where
   -- What is not refused is an order in which each region stands once and colours come in turn, and every such order is not refused.
-  pub turn : (ids order : List ℕ) → length order ≡ length ids → turns ids order ≡ Done → InTurn (colour_at ids) (place_at order) colours (length ids)
-  pub every_turn : (ids order : List ℕ) → length order ≡ length ids → InTurn (colour_at ids) (place_at order) colours (length ids) → turns ids order ≡ Done
+  pub turn : (ids order : List ℕ) → length order ≡ length ids → turns ids order ≡ done → InTurn (colour_at ids) (place_at order) colours (length ids)
+  pub every_turn : (ids order : List ℕ) → length order ≡ length ids → InTurn (colour_at ids) (place_at order) colours (length ids) → turns ids order ≡ done
   -- In such an order they leave what the full scatter leaves.
   pub same_bits : (order : List ℕ) (h dt : Float) (gravity : List Float) (regions : ℕ) (ids ranges : List ℕ) (count : ℕ) (particles s : Store)
-      → scatter_check Done h dt gravity regions ids ranges count particles (length s.floats) (length s.words) ≡ Done
-      → length order ≡ regions → turns ids order ≡ Done
+      → scatter_check done h dt gravity regions ids ranges count particles (length s.floats) (length s.words) ≡ done
+      → length order ≡ regions → turns ids order ≡ done
       → in_order h dt gravity ids ranges particles order (length order) s ≡ scattered h dt gravity ids ranges particles s
   -- The call of each region is accepted, whatever the nodes hold by then.
   pub each_accepted : (order : List ℕ) (h dt : Float) (gravity : List Float) (regions : ℕ) (ids ranges : List ℕ) (count : ℕ) (particles s t : Store) (i : ℕ)
-      → order_check order h dt gravity regions ids ranges count particles (length s.floats) (length s.words) ≡ Done
+      → order_check order h dt gravity regions ids ranges count particles (length s.floats) (length s.words) ≡ done
       → length t.floats ≡ length s.floats → length t.words ≡ length s.words → i < length order
-      → scatter_check (place_check (place_at order i) regions) h dt gravity regions ids ranges count particles (length t.floats) (length t.words) ≡ Done
+      → scatter_check (place_check (place_at order i) regions) h dt gravity regions ids ranges count particles (length t.floats) (length t.words) ≡ done

@@ -1,10 +1,9 @@
 -- Clear, scatter and update in turn: what the three together are refused for, and what they leave. Definitions only.
 use Rattle.std.specs.Prelude.{List, [], ◌∷◌, ◌++◌, ℕ, ◌*◌, Float, length}
 use Rattle.laws.specs.Store.{Store}
-use Rattle.grid.specs.Answers.{first}
+use Rattle.grid.specs.Answers.{first, Answer}
 use Rattle.grid.specs.Table.{all, lengths, node_lengths, limits, finite, good_width, good_step, settings, flags, numbers, words_per_range}
 use Rattle.grid.specs.Clear.{cleared}
-use Rattle.grid.specs.declared.Answer.{Answer}
 use Rattle.grid.specs.declared.Rule.TheVariants.{Code, NotFinite}
 use Rattle.particles.specs.Table.{particle_lengths, first_particle, placed}
 use Rattle.scatter.specs.Scatter.{scattered}

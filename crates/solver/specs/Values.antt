@@ -1,6 +1,7 @@
 -- An input that the calls accept, by computing their definitions: three regions, of which the first and the last have one colour, and a particle in each; the first
 -- particle stands at its region's edge, so that it and the second hit a common node. Then the first half of a gather, for two particles of one region. Computing goes through
 -- packing's definitions. Assumes nothing.
+use Rattle.grid.specs.Answers.{done, refusal}
 use Rattle.std.specs.Prelude.{List, [], ◌∷◌, ◌++◌, map, ◌≡◌, refl, Bool, true, false, not, ℕ, zero, suc, eqb, Float, length}
 use Rattle.std.specs.Float.{binary32}
 use Rattle.std.specs.Float.Ieee.{neg, lt, le, ne, eq, round, to_unsigned, add, sub, mul, div, of_bits, to_bits, of_int}
@@ -19,7 +20,6 @@ use Rattle.cells.specs.Lookup.{halved, narrowed, left, searched, lookup}
 use Rattle.grid.specs.Nodes.{node_at, nodes}
 use Rattle.grid.specs.Clear.{cleared}
 use Rattle.grid.specs.Table.{all, finite, flags, numbers, good_width, good_step, bad_region, region_ids, before, misplaced, cover}
-use Rattle.grid.specs.declared.Answer.TheVariants.{Done, Refused}
 use Rattle.grid.specs.declared.Rule.TheVariants.{Length, Setting, Code}
 use Rattle.particles.specs.Particles as Particles
 use Rattle.particles.specs.Places.{node_place}
@@ -100,16 +100,16 @@ pub record Values : Type 0 where
   -- the first and the last region have one colour
   pub colours : map (colour dim2) ids ≡ 0 ∷ 1 ∷ 0 ∷ []
   -- full scatter accepts it, and so does one region's, of each place; of none beyond
-  pub accepted : scatter_check Done one one still 3 ids ranges 3 particles 336 48 ≡ Done
-  pub regions : map (λ (place : ℕ). scatter_check (place_check place 3) one one still 3 ids ranges 3 particles 336 48) (0 ∷ 1 ∷ 2 ∷ 3 ∷ []) ≡ Done ∷ Done ∷ Done ∷ Refused Code 0 ∷ []
+  pub accepted : scatter_check done one one still 3 ids ranges 3 particles 336 48 ≡ done
+  pub regions : map (λ (place : ℕ). scatter_check (place_check place 3) one one still 3 ids ranges 3 particles 336 48) (0 ∷ 1 ∷ 2 ∷ 3 ∷ []) ≡ done ∷ done ∷ done ∷ refusal Code 0 ∷ []
   -- and both orders in which colours come in turn; not one that goes back to a colour, nor a place twice, nor none, nor a place too few
   pub orders : map (λ (order : List ℕ). order_check order one one still 3 ids ranges 3 particles 336 48) ((0 ∷ 2 ∷ 1 ∷ []) ∷ (2 ∷ 0 ∷ 1 ∷ []) ∷ (0 ∷ 1 ∷ 2 ∷ []) ∷ (0 ∷ 0 ∷ 1 ∷ []) ∷ (3 ∷ 0 ∷ 1 ∷ []) ∷ (0 ∷ 2 ∷ []) ∷ [])
-      ≡ Done ∷ Done ∷ Refused Code 2 ∷ Refused Code 1 ∷ Refused Code 0 ∷ Refused Length 0 ∷ []
+      ≡ done ∷ done ∷ refusal Code 2 ∷ refusal Code 1 ∷ refusal Code 0 ∷ refusal Length 0 ∷ []
   -- the node of the cell (4, 0), at place 16, is hit by a region of colour 0 and by one of colour 1
   pub shared : map (λ (c : ℕ). length (only 16 (colour_hits one (changed one one still) ids ranges particles c))) (0 ∷ 1 ∷ 2 ∷ 3 ∷ []) ≡ 1 ∷ 1 ∷ 0 ∷ 0 ∷ []
   -- clear, scatter and update in turn accept it too, with friction and no lock; not with a lock of a third axis, nor a friction too few
-  pub steps : map (λ (l : ℕ). step_check one one still 2 l 3 ids ranges 3 particles 1 frictions projections 336 48) (0 ∷ 4 ∷ []) ≡ Done ∷ Refused Code 0 ∷ []
-  pub short : step_check one one still 2 0 3 ids ranges 3 particles 1 [] projections 336 48 ≡ Refused Length 0
+  pub steps : map (λ (l : ℕ). step_check one one still 2 l 3 ids ranges 3 particles 1 frictions projections 336 48) (0 ∷ 4 ∷ []) ≡ done ∷ refusal Code 0 ∷ []
+  pub short : step_check one one still 2 0 3 ids ranges 3 particles 1 [] projections 336 48 ≡ refusal Length 0
   -- the cell (4, 0) is reached, the last of its region and the last of all are not
   pub reached : missed 1 0 ≡ false
   pub unreached : (missed 1 15 ≡ true) × (missed 2 15 ≡ true)
@@ -117,12 +117,12 @@ pub record Values : Type 0 where
   pub masses : map (λ (k : ℕ). (node_at (stepped one one still 0 0 3 ids ranges 3 particles 1 frictions projections (store (many 336 one) (many 48 1))) k).mass) (16 ∷ 31 ∷ [])
       ≡ of_bits binary32 0x3de00000 ∷ none ∷ []
   -- the first half is accepted with modified eigenerosion off and on, and not with 2
-  pub gathers : map (λ (modified : ℕ). first_check one one modified 1 (0 ∷ []) (0 ∷ 2 ∷ []) 2 pair 112 16) (0 ∷ 1 ∷ 2 ∷ []) ≡ Done ∷ Done ∷ Refused Code 0 ∷ []
+  pub gathers : map (λ (modified : ℕ). first_check one one modified 1 (0 ∷ []) (0 ∷ 2 ∷ []) 2 pair 112 16) (0 ∷ 1 ∷ 2 ∷ []) ≡ done ∷ done ∷ refusal Code 0 ∷ []
   -- nodes in stencil order, so that 2 ^ 24 + 1 - 2 ^ 24 + 1 is 1 along x; x = (2, 1), v = (1, 0), G = (2 ^ 27 -8, 0 0), and p = 36 is above 35: with it on, no phase is left
   pub gathered : map (λ (modified : ℕ). map (to_bits binary32) (first_half one one modified (0 ∷ []) moving 2 pair).floats) (1 ∷ 0 ∷ [])
       ≡ map (λ (phase : ℕ). twice (0x40000000 ∷ 0x3f800000 ∷ 0x3f800000 ∷ 0 ∷ 0x4d000000 ∷ 0xc1000000 ∷ many 6 0 ++ (0x3f800000 ∷ 0 ∷ phase ∷ 0x3f800000 ∷ many 5 0 ++ (0x420c0000 ∷ many 4 0)))) (0 ∷ 0x3f800000 ∷ [])
   -- fluids' volumes are accepted with h = 1, and not with 0
-  pub recomputes : map (λ (h : Float). fluids_check h 1 (0 ∷ []) (0 ∷ 2 ∷ []) 2 mixed 112 16) (one ∷ none ∷ []) ≡ Done ∷ Refused Setting 0 ∷ []
+  pub recomputes : map (λ (h : Float). fluids_check h 1 (0 ∷ []) (0 ∷ 2 ∷ []) 2 mixed 112 16) (one ∷ none ∷ []) ≡ done ∷ refusal Setting 0 ∷ []
   -- both masses are on the nodes that are gathered from, beside what stood there: 5304/64 + 128·(38/64)² = 128, so the fluid's F00 is (64/128)/2; the solid's stays
   pub recomputed : map (to_bits binary32) (particles_after one (0 ∷ []) (0 ∷ 2 ∷ []) 2 mixed standing).floats
       ≡ 0x3f800000 ∷ 0x3f800000 ∷ many 10 0 ++ (0x42800000 ∷ 0x40000000 ∷ many 12 0 ++ (0x3f800000 ∷ 0x3f800000 ∷ many 10 0 ++ (0x42800000 ∷ 0x40000000 ∷ many 3 0 ++ (0x3e800000 ∷ many 8 0))))

@@ -1,23 +1,13 @@
 -- The check of the update in the steps in which the code makes it, and what it has shown where it refuses nothing. Assumes nothing.
-use mathlib.Core.Path.{◌≡◌, refl, ap, ap₂, ◌∙◌}
-use mathlib.Core.Bool.{Bool, true, false, ◌&&◌, not, and-true}
-use mathlib.Core.List.{List, [], ◌∷◌, ◌++◌}
-use Prim.Native.Nat.{ℕ, ◌+◌, ◌*◌, ◌≤◌, ◌<◌, ◌^◌}
-use native.Mathlib.Omega.{arith}
-use lib.Dec.{eqb, ltb}
-use lib.Ieee.{Float}
-use lib.ListN.{length}
-use borrow.Author.Tests.{eqb-true}
-use Rattle.laws.specs.Store.{Store, store, Holds}
+use Rattle.std.proofs.Common.{◌≡◌, refl, ap, ap₂, ◌∙◌, Bool, true, false, ◌&&◌, not, List, [], ◌∷◌, ◌++◌, ℕ, ◌*◌, ◌^◌, eqb, ltb, Float, length, eqb-true}
+use mathlib.Core.Bool.{and-true}
+use Rattle.laws.specs.Store.{Store, store}
 use Rattle.laws.specs.Hits.{run, gather}
 use Rattle.laws.specs.Refusals as Refusals
 use Rattle.laws.proofs.Refusals.{unless_passed}
-use Rattle.laws.proofs.Rows.{stretch}
-use Rattle.grid.specs.Answers.{refused, refuse, unless}
-use Rattle.grid.specs.Nodes.{node_form, region_cells}
+use Rattle.grid.specs.Answers.{refused, refuse, unless, Answer, done}
+use Rattle.grid.specs.Nodes.{region_cells}
 use Rattle.grid.specs.Table.{matches, lengths, node_lengths, limits, good_width, good_step, settings, called, flags, numbers, region_ids}
-use Rattle.grid.specs.declared.Answer.{Answer}
-use Rattle.grid.specs.declared.Answer.TheVariants.{Done}
 use Rattle.grid.specs.declared.Rule.TheVariants.{Length, Setting, Code}
 use Rattle.grid.proofs.Answers.{unless_end, refuse_passed, not_false}
 use Rattle.grid.proofs.Lengths.{and_split, regroup, nodes_held}
@@ -40,7 +30,7 @@ module _ (h dt : Float) (code locks regions : ℕ) (ids : List ℕ) (count : ℕ
       let a = eqb (length projections.floats) (regions * count * (region_cells * projection_floats)) in
       let b = eqb (length projections.words) (regions * count * (region_cells * projection_words)) in
       ap₂ (λ (x s : Bool). unless (refuse (not (eqb (length ids) regions && (eqb (length colliders) (count * collider_floats) && x))) Length 0)
-      (unless (limits regions 0 count) (unless (refuse (not (good_width h && s)) Setting 0) (unless (own_check code locks) (unless (given ids colliders projections) Done)))))
+      (unless (limits regions 0 count) (unless (refuse (not (good_width h && s)) Setting 0) (unless (own_check code locks) (unless (given ids colliders projections) done)))))
       (regroup a b (matches (node_lengths regions nf nw))) (and-true (good_step dt))
       ∙ called_then (fitting nf nw) (limits regions 0 count) (good_width h && good_step dt) (own_check code locks) (given ids colliders projections)
 
@@ -77,16 +67,6 @@ module _ (h dt : Float) (code locks regions : ℕ) (ids : List ℕ) (count : ℕ
           nodes_held = rw counted (nodes_held regions nf nw n.1);
         };
       }
-
--- the projections of a cell lie within those of all regions
-pub projections_there : (n count r c : ℕ) → r < n → c < region_cells → (r * region_cells + c) * count + count ≤ n * count * region_cells
-projections_there n count r c p q = omega (arith, stretch count (r * region_cells + c) (n * region_cells) (omega arith))
-
--- other nodes of as many regions do as well
-pub still_ready : (ids : List ℕ) (count : ℕ) (colliders : List Float) (projections s t : Store) → Ready ids count colliders projections s → Holds node_form t (length ids * region_cells)
-    → Ready ids count colliders projections t
-still_ready ids count colliders projections s t ready held =
-    record { colliders_long = ready.colliders_long; floats_long = ready.floats_long; words_long = ready.words_long; nodes_held = held }
 
 -- ---- an update of nothing
 

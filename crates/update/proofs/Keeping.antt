@@ -1,11 +1,5 @@
 -- The update leaves a node of zero mass, momentum and velocity as it is, whatever the locks, the colliders and their projections. Assumes nothing.
-use mathlib.Core.Path.{◌≡◌, refl, ap, ◌∙◌}
-use mathlib.Core.Bool.{Bool, true, false, cond}
-use mathlib.Core.List.{List, [], ◌∷◌}
-use Prim.Native.Nat.{ℕ, zero, suc, ◌+◌, ◌*◌, ◌/◌, ◌%◌}
-use lib.Dec.{eqb}
-use lib.Ieee.{Float}
-use lib.ListN.{get_or}
+use Rattle.std.proofs.Common.{◌≡◌, refl, ap, ◌∙◌, Bool, true, false, cond, List, [], ◌∷◌, ℕ, zero, suc, ◌+◌, ◌*◌, ◌/◌, ◌%◌, eqb, Float, get_or}
 use Rattle.packing.specs.Ids.{dim2, cell_of}
 use Rattle.numeric.specs.Axes.{axes, vector}
 use Rattle.numeric.specs.Bits.{none}

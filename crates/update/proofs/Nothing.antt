@@ -1,12 +1,6 @@
 -- What zeros make: a zero times anything is a zero or a NaN, a sum of such is one, and none of these is below 0. Assumes nothing.
-use mathlib.Core.Path.{◌≡◌, refl, sym, ◌∙◌, subst}
-use mathlib.Core.Bool.{Bool, true, false}
-use mathlib.Core.List.{List, [], ◌∷◌}
-use Prim.Native.Nat.{ℕ, zero, suc, ◌*◌, ◌<◌}
-use native.Mathlib.Nat.{zero-mul, mul-pos}
-use native.Mathlib.Omega.{arith}
-use lib.IntN.{ℤ, pos}
-use lib.Ieee.{Float, nan, inf, fin, binary32, up, down, unlike, round, sum, add, mul, lt, of_bits}
+use Rattle.std.proofs.Common.{◌≡◌, refl, sym, ◌∙◌, subst, Bool, true, false, List, [], ◌∷◌, ℕ, zero, suc, ◌*◌, ◌<◌, zero-mul, mul-pos, arith, ℤ, pos, Float}
+use lib.Ieee.{nan, inf, fin, binary32, up, down, unlike, round, sum, add, mul, lt, of_bits}
 use lib.Ieee.Fits.{down_pos}
 use lib.Ieee.Scale.{round_same}
 use Rattle.numeric.specs.Bits.{◌⊕◌, ◌⊗◌, none}

@@ -1,11 +1,5 @@
 -- What the update leaves: each node as its own update makes it. Assumes nothing.
-use mathlib.Core.Path.{◌≡◌, refl, sym, ap, ◌∙◌, subst}
-use mathlib.Core.List.{List, [], ◌∷◌}
-use Prim.Native.Nat.{ℕ, ◌+◌, ◌*◌, ◌<◌}
-use native.Mathlib.Omega.{arith}
-use lib.Ieee.{Float}
-use lib.ListN.{length}
-use borrow.Author.Tests.{eq-eqb}
+use Rattle.std.proofs.Common.{◌≡◌, refl, sym, ap, ◌∙◌, subst, List, [], ◌∷◌, ℕ, ◌+◌, ◌*◌, ◌<◌, arith, Float, length, eq-eqb}
 use Rattle.laws.specs.Store.{Store, Holds}
 use Rattle.laws.specs.Hits.{Within, only, along, run}
 use Rattle.laws.proofs.Hits as Hits

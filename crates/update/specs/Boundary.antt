@@ -1,7 +1,7 @@
 -- Document 01, "Update": what a collider makes of a node, by the projection of the node's cell on it. Vectors are lists, an entry an axis, so that the plane and space
 -- share each definition. Definitions, and what is proved of them.
 -- Assumes nothing.
-use Rattle.std.specs.Prelude.{◌≡◌, refl, Bool, true, false, cond, ◌||◌, List, [], ◌∷◌, map, ℕ, eqb, leb, Float}
+use Rattle.std.specs.Prelude.{◌≡◌, refl, Bool, true, false, cond, ◌||◌, List, [], ◌∷◌, map, ℕ, eqb, leb, Float, Option, Some, None as Absent, Result, Ok, Err}
 use Rattle.std.specs.Float.{binary32}
 use Rattle.std.specs.Float.Ieee.{lt, le, neg, of_bits}
 use Rattle.numeric.specs.Axes.{pairwise, axes, vector}
@@ -9,28 +9,27 @@ use Rattle.numeric.specs.Bits.{◌⊕◌, ◌⊖◌, ◌⊗◌, ◌⊘◌, none}
 use Rattle.numeric.specs.Kernel.{dot, minus_all}
 use Rattle.numeric.specs.Root.{root_of}
 use Rattle.numeric.specs.Scalar.{maximum}
+use Rattle.numeric.specs.declared.dim2.Vector.{Vector}
+use Rattle.grid.specs.declared.Refusal.{Refusal}
+use Rattle.grid.specs.declared.Rule.TheVariants.{Code}
 use Rattle.grid.specs.declared.grid_node.GridNode.{GridNode}
 use Rattle.update.specs.declared.grid_update.BoundaryHandling.{BoundaryHandling}
 use Rattle.update.specs.declared.grid_update.BoundaryHandling.TheVariants.{None, Stick, Friction}
-use Rattle.update.specs.declared.grid_update.Handling.{Handling}
-use Rattle.update.specs.declared.grid_update.Handling.TheVariants.{Known, Unknown}
 use Rattle.update.specs.declared.grid_update.Projection.{Projection}
 use Rattle.update.specs.declared.grid_update.Projection.TheVariants.{Inside, Outside}
-use Rattle.update.specs.declared.grid_update.Normal.{Normal}
-use Rattle.update.specs.declared.grid_update.Normal.TheVariants.{Of, Absent}
 
--- Boundary handling is 0 none, 1 stick, 2 friction, 3 friction z-up; 2 and 3 act alike.
-abbrev pub handling_of : ℕ → Handling
-handling_of code = cond (eqb code 0) (Known None) (cond (eqb code 1) (Known Stick) (cond (leb code 3) (Known Friction) Unknown))
+-- Boundary handling is 0 none, 1 stick, 2 friction, 3 friction z-up; 2 and 3 act alike, and the rest is refused with 4.
+abbrev pub handling_of : ℕ → Result BoundaryHandling Refusal
+handling_of code = cond (eqb code 0) (Ok None) (cond (eqb code 1) (Ok Stick) (cond (leb code 3) (Ok Friction) (Err (record { rule = Code; index = 0 }))))
 
-abbrev pub known : Handling → Bool
-known (Known handling) = true
-known Unknown = false
+abbrev pub known : Result BoundaryHandling Refusal → Bool
+known (Ok handling) = true
+known (Err e) = false
 
 -- an unknown code is refused, and then nothing is asked of it
-abbrev pub known_or : BoundaryHandling → Handling → BoundaryHandling
-known_or other (Known handling) = handling
-known_or other Unknown = other
+abbrev pub known_or : BoundaryHandling → Result BoundaryHandling Refusal → BoundaryHandling
+known_or other (Ok handling) = handling
+known_or other (Err e) = other
 
 -- The projection of a cell on a collider is inside at a point or outside at a point.
 abbrev pub is_inside : Projection → Bool
@@ -123,8 +122,8 @@ handled Friction h dt friction centre p v = rubbed h dt friction (is_inside p) (
 -- ---- in the plane
 
 -- the normal of a vector with its length, or none
-abbrev pub normal_of : List Float → Normal
-normal_of e = cond (directed e) (Of (vector (direction e)) (norm e)) Absent
+abbrev pub normal_of : List Float → Option (Vector × Float)
+normal_of e = cond (directed e) (Some (vector (direction e), norm e)) Absent
 
 -- what a collider makes of a node
 unfoldable pub collided : BoundaryHandling → Float → Float → Float → List Float → Projection → GridNode → GridNode

@@ -9,10 +9,9 @@ use Rattle.numeric.specs.Bits.{none}
 use Rattle.laws.specs.Store.{Store, store, Holds}
 use Rattle.laws.specs.Hits.{Hit, run, gather}
 use Rattle.cells.specs.Cells.{cell_center}
-use Rattle.grid.specs.Answers.{first}
+use Rattle.grid.specs.Answers.{first, Answer}
 use Rattle.grid.specs.Nodes.{node_form, node_at, nodes, region_cells}
 use Rattle.grid.specs.Table.{good_width, good_step, lengths, node_lengths, limits, settings, codes, flags, numbers, region_ids}
-use Rattle.grid.specs.declared.Answer.{Answer}
 use Rattle.grid.specs.declared.grid_node.GridNode.{GridNode}
 use Rattle.update.specs.Boundary.{handling_of, known, known_or, collided}
 use Rattle.update.specs.declared.grid_update.BoundaryHandling.{BoundaryHandling}

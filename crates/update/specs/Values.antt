@@ -1,17 +1,17 @@
 -- What the update makes of a node, on values that can be followed by hand. Assumes nothing.
-use Rattle.std.specs.Prelude.{true, false, List, [], ◌∷◌, map, ◌≡◌, refl, ℕ, Float}
+use Rattle.std.specs.Prelude.{true, false, List, [], ◌∷◌, map, ◌≡◌, refl, ℕ, Float, Ok, Err}
 use Rattle.std.specs.Float.{nan, binary32}
 use Rattle.std.specs.Float.Ieee.{is_nan, neg, lt, le, eq, round, add, sub, mul, div, of_bits, to_bits, size, units}
 use Rattle.numeric.specs.Bits.{none, half, one, two, ◌⊗◌}
 use Rattle.numeric.specs.Root.{root_of, units_root, whole_root, root_digits}
 use Rattle.numeric.specs.Scalar.{maximum}
 use Rattle.laws.specs.Store.{store}
+use Rattle.grid.specs.declared.Rule.TheVariants.{Code}
 use Rattle.grid.specs.declared.grid_node.GridNode.{GridNode}
 use Rattle.update.specs.Boundary.{handling_of, flagged, least_norm, least_tangent, slid, met, against, rubbed, handled}
 use Rattle.update.specs.Update.{projection_at, locked_node}
 use Rattle.update.specs.declared.grid_update.BoundaryHandling.{BoundaryHandling}
 use Rattle.update.specs.declared.grid_update.BoundaryHandling.TheVariants.{None, Stick, Friction}
-use Rattle.update.specs.declared.grid_update.Handling.TheVariants.{Known, Unknown}
 use Rattle.update.specs.declared.grid_update.Projection.{Projection}
 use Rattle.update.specs.declared.grid_update.Projection.TheVariants.{Inside, Outside}
 
@@ -40,7 +40,7 @@ node =
 
 pub record Values : Type 0 where
   -- the codes, of which 2 and 3 act alike
-  pub codes : map handling_of (0 ∷ 1 ∷ 2 ∷ 3 ∷ 4 ∷ []) ≡ Known None ∷ Known Stick ∷ Known Friction ∷ Known Friction ∷ Unknown ∷ []
+  pub codes : map handling_of (0 ∷ 1 ∷ 2 ∷ 3 ∷ 4 ∷ []) ≡ Ok None ∷ Ok Stick ∷ Ok Friction ∷ Ok Friction ∷ Err (record { rule = Code; index = 0 }) ∷ []
   -- 1.0e-5·1.0e-5 is not 1.0e-10
   pub least : (to_bits binary32 (least_norm ⊗ least_norm) ≡ 0x2edbe6fe) × (to_bits binary32 least_tangent ≡ 0x2edbe6ff)
   -- the flag: on stays on with its bits, inside switches it on

@@ -5,7 +5,7 @@ ghost use Rattle.std.specs.Prelude.{◌≡◌};
 ghost use Rattle.values.specs.Table.{table, whole_said, floats_said};
 
 use numeric::kernel;
-use packing::{dim2, dim3};
+use packing::{Plane, Solid, Space, dim2, dim3};
 
 // What the port answers, row by row: eight whole numbers, and five floats in three rows.
 #[derive(Clone, Copy)]
@@ -34,11 +34,11 @@ fn whole() -> [u64; 8]
         dim2::pack(2, 2),
         five,
         negative,
-        dim2::packed_add(negative, five),
+        Plane::packed_add(negative, five),
         dim2::pack(0x1000_0000, 0),
         dim3::pack(4, 4, 4),
         negative3,
-        dim3::packed_add(negative3, 0),
+        Solid::packed_add(negative3, 0),
     ]
 }
 

@@ -1,22 +1,28 @@
-use mathlib.Core.Path.{sym, ◌∙◌}
-use borrow.Author.Tests.{eq-eqb, ne_eqb}
-use Rattle.fields.proofs.Reading.{read_out, decimal_none, decimal_one, decimal_more}
+use Rattle.std.proofs.Common.{◌∙◌, refl, arith}
+use Rattle.std.proofs.lemmas.Bool.Decides.{nat_tests}
+use Rattle.std.proofs.lemmas.Option.{MatchOption-at_some, MatchOption-at_none}
+use Rattle.fields.specs.Read.{decimal_of}
+use Rattle.fields.proofs.Reading.{decimal_is, read_got}
 use Rattle.fields.proofs.decimal.Goals as goal
 
-pub returns-then-s-to : goal.returns-then-s-to
-returns-then-s-to c = sym (read_out _ _ _ _ c.if-s-to.true)
+pub returns-in_err-text : goal.returns-in_err-text
+unfolding decimal_of
+returns-in_err-text c =
+    let a = c.args in
+    c.from_residual.ensures ∙ MatchOption-at_none _ _ c.in_err-text.was (read_got decimal_of a.from a.to a.s.now c.get.result c.get.ensures.lookup refl)
 
-pub returns-then-to-from : goal.returns-then-to-from
-returns-then-to-from c = sym (decimal_none _ _ _ c.if-s-to.false c.if-to-from.true)
-
-pub returns-then-to-from-eq1 : goal.returns-then-to-from-eq1
-returns-then-to-from-eq1 c =
-    c.value.ensures ∙ sym (decimal_one _ _ _ c.if-s-to.false c.if-to-from.false c.if-to-from-eq1.true)
-
-pub returns-then-s-from-eq48 : goal.returns-then-s-from-eq48
-returns-then-s-from-eq48 c =
-    rw (decimal_more _ _ _ c.if-s-to.false c.if-to-from.false c.if-to-from-eq1.false, eq-eqb _ _ c.if-s-from-eq48.true)
+pub returns-then-is_empty : goal.returns-then-is_empty
+unfolding decimal_of
+returns-then-is_empty c =
+    let a = c.args in
+    let h = MatchOption-at_some _ _ _ c.in_ok-text.was (read_got decimal_of a.from a.to a.s.now c.get.result c.get.ensures.lookup refl) in
+    let e = decimal_is c.in_ok-text.text.now in
+    grind (arith, nat_tests)
 
 pub returns : goal.returns
+unfolding decimal_of
 returns c =
-    rw (decimal_more _ _ _ c.if-s-to.false c.if-to-from.false c.if-to-from-eq1.false, ne_eqb _ _ c.if-s-from-eq48.false) c.value-2.ensures
+    let a = c.args in
+    let h = MatchOption-at_some _ _ _ c.in_ok-text.was (read_got decimal_of a.from a.to a.s.now c.get.result c.get.ensures.lookup refl) in
+    let e = decimal_is c.in_ok-text.text.now in
+    grind (arith, nat_tests)

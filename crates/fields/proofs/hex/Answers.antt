@@ -1,30 +1,25 @@
-use mathlib.Core.Path.{◌≡◌, sym}
-use native.Mathlib.Omega.{arith}
-use Prim.Native.Nat.{◌-◌}
-use borrow.Author.Tests.{eq-eqb, ne_eqb, le-leb, lt-leb}
-use Rattle.fields.proofs.Reading.{read_out, hex_in}
+use Rattle.std.proofs.Common.{◌∙◌, arith}
+use Rattle.std.proofs.lemmas.Bool.Decides.{nat_tests}
+use Rattle.std.proofs.lemmas.Option.{MatchOption-at_some, MatchOption-at_none}
+use Rattle.fields.specs.Read.{hex_of}
+use Rattle.fields.proofs.Reading.{hex_none, read_got}
 use Rattle.fields.proofs.hex.Goals as goal
 
-pub returns-then-s-to : goal.returns-then-s-to
-returns-then-s-to c = sym (read_out _ _ _ _ c.if-s-to.true)
+pub returns-in_err-text : goal.returns-in_err-text
+returns-in_err-text c =
+    let a = c.args in
+    c.from_residual.ensures ∙ MatchOption-at_none _ _ c.in_err-text.was (read_got (hex_of a.digits) a.from a.to a.s.now c.get.result c.get.ensures.lookup (hex_none a.digits))
 
 pub returns-then-digits-eq0 : goal.returns-then-digits-eq0
-returns-then-digits-eq0 c = rw (hex_in _ _ _ c.if-s-to.false, eq-eqb _ _ c.if-digits-eq0.true)
-
-pub returns-then-digits-gt16 : goal.returns-then-digits-gt16
-returns-then-digits-gt16 c = rw (hex_in _ _ _ c.if-s-to.false, ne_eqb _ _ c.if-digits-eq0.false, lt-leb _ _ c.if-digits-gt16.true)
-
-pub returns-then-to-from : goal.returns-then-to-from
-returns-then-to-from c =
+unfolding hex_of
+returns-then-digits-eq0 c =
     let a = c.args in
-    let e : a.to - a.from ≡ a.digits → ⊥ = λ q. omega arith in
-    rw (hex_in _ _ _ c.if-s-to.false, ne_eqb _ _ c.if-digits-eq0.false, le-leb _ _ c.if-digits-gt16.false, ne_eqb _ _ e)
-
-pub returns-then-to-from-2 : goal.returns-then-to-from-2
-returns-then-to-from-2 c =
-    rw (hex_in _ _ _ c.if-s-to.false, ne_eqb _ _ c.if-digits-eq0.false, le-leb _ _ c.if-digits-gt16.false, ne_eqb _ _ c.if-to-from-2.true)
+    let h = MatchOption-at_some _ _ _ c.in_ok-text.was (read_got (hex_of a.digits) a.from a.to a.s.now c.get.result c.get.ensures.lookup (hex_none a.digits)) in
+    grind (arith, nat_tests)
 
 pub returns : goal.returns
+unfolding hex_of
 returns c =
-    rw (hex_in _ _ _ c.if-s-to.false, ne_eqb _ _ c.if-digits-eq0.false, le-leb _ _ c.if-digits-gt16.false, eq-eqb _ _ c.if-to-from-2.false)
-    c.value.ensures
+    let a = c.args in
+    let h = MatchOption-at_some _ _ _ c.in_ok-text.was (read_got (hex_of a.digits) a.from a.to a.s.now c.get.result c.get.ensures.lookup (hex_none a.digits)) in
+    grind (arith, nat_tests)

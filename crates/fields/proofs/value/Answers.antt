@@ -1,41 +1,44 @@
--- The number that is asked for is, at each turn, n and then the digits from i on.
-use Prim.Native.Nat.{◌+◌, ◌*◌, ◌<◌, ◌^◌}
-use mathlib.Core.Path.{refl, ◌∙◌, ap, sym}
-use native.Mathlib.Omega.{arith}
-use Rattle.fields.specs.Read.{bounded, number_of}
-use Rattle.fields.proofs.Reading.{room, no_room, digit_bad, digit_more, digit_over, digits_end}
-use Rattle.fields.proofs.value.Goals.{Else-d-base}
+-- The number that is asked for is, at each turn, n and then the digits that are left.
+use Rattle.std.proofs.Common.{◌≡◌, ◌+◌, ◌*◌, ◌<◌, ◌≤◌, ◌^◌, length, get_or, ap, sym, ◌∙◌, refl, arith}
+use Rattle.fields.specs.Read.{digit_of, bounded, number_of}
+use Rattle.fields.proofs.Reading.{digit_bad, digit_more, digit_over, digits_end}
 use Rattle.fields.proofs.value.Goals as goal
 
-pub loop-i-init : goal.loop-i-init
+pub loop-b-init : goal.loop-b-init
 unfolding number_of
-loop-i-init c = (omega arith, refl)
+loop-b-init c = (omega arith, refl)
 
-pub returns-then-base-d : goal.returns-then-base-d
-returns-then-base-d c =
-    sym (c.loop-i.invariant.1 ∙ digit_bad _ _ _ _ _ c.args.s.now c.digit-d.ensures c.loop-i-test.true c.requires c.if-base-d.true)
+pub returns-in_err-d : goal.returns-in_err-d
+returns-in_err-d c =
+    let inside : c.loop-b.b-index < length c.args.s.now = omega arith in
+    let none : c.args.base ≤ digit_of (get_or c.args.s.now c.loop-b.b-index 0) = grind arith in
+    c.from_residual.ensures ∙ sym (c.loop-b.invariant.1 ∙ digit_bad _ _ _ _ inside none)
 
-pub returns-then-d-base : goal.returns-then-d-base
-returns-then-d-base c =
-    let small : c.digit-d.result < 2 ^ 64 = omega arith in
-    let more = no_room _ _ _ c.if-base-d.false small c.if-d-base.true in
-    sym (c.loop-i.invariant.1 ∙ digit_over _ _ _ _ _ c.args.s.now c.digit-d.ensures c.loop-i-test.true c.requires c.if-base-d.false more)
+pub returns-in_err-checked_mul : goal.returns-in_err-checked_mul
+returns-in_err-checked_mul c =
+    let inside : c.loop-b.b-index < length c.args.s.now = omega arith in
+    let d = digit_of (get_or c.args.s.now c.loop-b.b-index 0) in
+    let digit : d < c.args.base = grind arith in
+    let over : 2 ^ 64 ≤ c.loop-b.n * c.args.base + d = grind arith in
+    c.from_residual-in_err-checked_mul.ensures ∙ sym (c.loop-b.invariant.1 ∙ digit_over _ _ _ _ inside digit over)
 
-fits : (c : Else-d-base) → c.loop-i.n * c.args.base + c.digit-d.result < 2 ^ 64
-fits c =
-    let small : c.digit-d.result < 2 ^ 64 = omega arith in
-    room _ _ _ c.if-base-d.false small c.if-d-base.false
+pub returns-in_err-n : goal.returns-in_err-n
+returns-in_err-n c =
+    let inside : c.loop-b.b-index < length c.args.s.now = omega arith in
+    let d = digit_of (get_or c.args.s.now c.loop-b.b-index 0) in
+    let digit : d < c.args.base = grind arith in
+    let over : 2 ^ 64 ≤ c.loop-b.n * c.args.base + d = grind arith in
+    c.from_residual-in_err-n.ensures ∙ sym (c.loop-b.invariant.1 ∙ digit_over _ _ _ _ inside digit over)
 
-pub overflow_mul-n : goal.overflow_mul-n
-overflow_mul-n c = omega (arith, fits (goal.at.overflow_mul-n c).Else-d-base)
-
-pub overflow_add-n : goal.overflow_add-n
-overflow_add-n c = record { fits = fits (goal.at.overflow_add-n c).Else-d-base }
-
-pub loop-i-preserved : goal.loop-i-preserved
-loop-i-preserved c =
-    (fits (goal.at.loop-i-preserved c).Else-d-base, c.loop-i.invariant.1 ∙ ap bounded (digit_more _ _ _ _ _ c.args.s.now c.digit-d.ensures c.loop-i-test.true c.requires c.if-base-d.false))
+pub loop-b-preserved : goal.loop-b-preserved
+loop-b-preserved c =
+    let inside : c.loop-b.b-index < length c.args.s.now = omega arith in
+    let d = digit_of (get_or c.args.s.now c.loop-b.b-index 0) in
+    let digit : d < c.args.base = grind arith in
+    let more : c.in_ok-n.n ≡ c.loop-b.n * c.args.base + d = grind arith in
+    (grind arith, c.loop-b.invariant.1 ∙ rw more (ap bounded (digit_more _ _ _ _ inside digit)))
 
 pub returns : goal.returns
 returns c =
-    sym (c.loop-i.invariant.1 ∙ digits_end _ _ _ _ _ c.loop-i-test.false c.requires c.loop-i.invariant.0)
+    let over : length c.args.s.now ≤ c.loop-b.b-index = omega arith in
+    sym (c.loop-b.invariant.1 ∙ digits_end _ _ _ _ over c.loop-b.invariant.0)

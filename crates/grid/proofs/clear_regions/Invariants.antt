@@ -1,8 +1,5 @@
--- `grid::clear_regions` meets its contract: the nodes of all regions but those left are empty.
-use mathlib.Core.Path.{◌≡◌}
-use mathlib.Core.List.{List}
-use Prim.Native.Nat.{ℕ, ◌+◌, ◌*◌, ◌-◌, ◌≤◌}
-use lib.ListN.{length}
+-- `grid::clear_regions` meets its contract: the nodes of the regions before r are empty.
+use Rattle.std.specs.Prelude.{◌≡◌, List, ℕ, ◌+◌, ◌*◌}
 use Rattle.laws.specs.Store.{store}
 use Rattle.laws.specs.Hits.{Hit, run, gather}
 use Rattle.grid.specs.Nodes.{nodes, region_cells}
@@ -14,8 +11,5 @@ use Rattle.grid.proofs.clear_regions.Given as goal
 abbrev pub hits : ℕ → List (Hit GridNode)
 hits r = gather (λ c. emptied (r * region_cells + c)) region_cells
 
-abbrev pub invariant-loop-left : goal.invariant-loop-left
-invariant-loop-left l = (l.left ≤ l.regions) × (length l.nf ≡ length l.initial.nf) × (length l.nw ≡ length l.initial.nw) × (store l.nf l.nw ≡ run nodes (gather hits (l.regions - l.left)) (store l.initial.nf l.initial.nw))
-
-abbrev pub decreases-loop-left : goal.decreases-loop-left
-decreases-loop-left l = l.left
+abbrev pub invariant-loop-r : goal.invariant-loop-r
+invariant-loop-r l = store l.nf l.nw ≡ run nodes (gather hits l.r) (store l.initial.nf l.initial.nw)

@@ -1,18 +1,9 @@
 -- The page holds the answer to the whole text, and its front is put into out.
-use mathlib.Core.Path.{refl, sym, ◌∙◌}
-use Prim.Native.Nat.{ℕ}
-use native.Mathlib.Omega.{arith}
-use lib.ListN.{length-replicate}
-use lib.Seq.{length-take-le}
+use Rattle.std.proofs.Common.{refl, ◌∙◌, ℕ, arith}
+use Rattle.std.proofs.Math.ListN.{length-replicate}
 use Rattle.numeric.specs.Bits.{none}
 use Rattle.listing.proofs.Calling.{printed_answer, room, front_put}
 use Rattle.listing.proofs.bench.Goals as goal
-
-pub slice_bounds-page-end : goal.slice_bounds-page-end
-slice_bounds-page-end c = let f = c.finish-n.ensures in room _ _ f.1 (length-replicate {A = ℕ} 92160 0) f.2
-
-pub slice_bounds-put_bytes-end : goal.slice_bounds-put_bytes-end
-slice_bounds-put_bytes-end c = let f = c.finish-n.ensures in sym (length-take-le _ _ (room _ _ f.1 (length-replicate {A = ℕ} 92160 0) f.2))
 
 pub returns : goal.returns
 returns c =

@@ -1,6 +1,6 @@
 -- `packing::masked_add` meets its contract, by the law of masked sums at 64 digits.
 use Rattle.std.proofs.Common.{ℕ, ap, ◌∙◌}
-use lib.Bits.{bit_and}
+use Rattle.std.specs.Int.Bits.{bit_and}
 use Rattle.packing.specs.Mask.{axis_sum}
 use Rattle.packing.proofs.Sum.{masked_at}
 use Rattle.packing.proofs.masked_add.Goals as goal

@@ -1,7 +1,7 @@
 -- `packing::region_of` meets its contract: the mask has the 52 digits from 12 on.
 use Rattle.std.proofs.Common.{ℕ, ◌*◌, ◌^◌, ap, ◌∙◌}
-use lib.Bits.{and_high}
-use lib.Pow.{shr_mod}
+use Rattle.std.specs.Int.Bits.{and_high}
+use Rattle.std.proofs.Math.Pow.{shr_mod}
 use Rattle.packing.specs.Ids.{region}
 use Rattle.packing.proofs.region_of.Goals as goal
 

@@ -1,60 +1,45 @@
 -- `solver::check_in_order` meets its contract: the order's length, then the lists, the order, the particles.
-use mathlib.Core.Path.{sym, ◌∙◌}
-use native.Mathlib.Omega.{arith}
-use Rattle.numeric.specs.Axes.{axes}
+use Rattle.std.proofs.Common.{sym, ◌∙◌, arith, rules}
 use Rattle.laws.specs.Store.{store}
+use Rattle.grid.specs.Answers.{done}
 use Rattle.grid.specs.Table.{limits}
-use Rattle.grid.specs.declared.Answer.TheVariants.{Done}
-use Rattle.grid.proofs.Answers.{stops}
-use Rattle.grid.proofs.Steps.{stays, passes}
 use Rattle.particles.proofs.Staging.{looked_at}
 use Rattle.solver.proofs.Turning.{too_long, in_steps}
 use Rattle.solver.proofs.check_in_order.Goals as goal
 
-pub returns-then-order-regions : goal.returns-then-order-regions
-returns-then-order-regions c = too_long _ _ _ _ _ _ _ _ _ _ _ (λ e. omega (arith, e))
+pub returns-then-order-given : goal.returns-then-order-given
+returns-then-order-given c = too_long _ _ _ _ _ _ _ _ _ _ _ (λ e. omega (arith, e))
 
-pub returns-in_default : goal.returns-in_default
-returns-in_default c =
-    let g = c.args in
-    rw (
-      in_steps g.order.now g.cell_width g.dt (axes g.gravity) g.regions g.ids.now g.ranges.now g.particles (store g.pf.now g.pw.now) g.nf g.nw c.if-order-regions.false,
-      ← c.is_width.ensures,
-      ← c.is_step.ensures,
-      ← c.is_finite_vector.ensures,
-      ← c.check_lists-a.ensures,
-    )
-    (stays _ _ (stops c.check_lists-a.result (omega arith)))
+pub returns-in_err-check_lists : goal.returns-in_err-check_lists
+returns-in_err-check_lists c =
+    rw (in_steps _ _ _ _ _ _ _ _ _ _ _ c.if-order-given.false, ← c.is_set.ensures, ← c.check_lists.ensures, c.in_err-check_lists.was) (search rules)
 
-pub returns-in_default-b : goal.returns-in_default-b
-returns-in_default-b c =
-    let g = c.args in
+pub returns-in_err-check_order : goal.returns-in_err-check_order
+returns-in_err-check_order c =
     rw (
-      in_steps g.order.now g.cell_width g.dt (axes g.gravity) g.regions g.ids.now g.ranges.now g.particles (store g.pf.now g.pw.now) g.nf g.nw c.if-order-regions.false,
-      ← c.is_width.ensures,
-      ← c.is_step.ensures,
-      ← c.is_finite_vector.ensures,
-      ← c.check_lists-a.ensures,
-      ← c.check_order-b.ensures,
+      in_steps _ _ _ _ _ _ _ _ _ _ _ c.if-order-given.false,
+      ← c.is_set.ensures,
+      ← c.check_lists.ensures,
+      c.in_ok-check_lists.was,
+      ← c.check_order.ensures,
+      c.in_err-check_order.was,
     )
-    (stays _ _ (stops c.check_order-b.result (omega arith)) ∙ passes _ _ c.in-Done.is)
+    (search rules)
 
 pub check_particles-requires : goal.check_particles-requires
 check_particles-requires c =
-    let g = c.args in
-    looked_at g.regions g.ids.now g.ranges.now g.particles (store g.pf.now g.pw.now) g.nf g.nw (limits g.regions g.particles 0) _ Done
-    (sym c.check_lists-a.ensures ∙ c.in-Done.is)
+    let g = c.args.given in
+    looked_at g.regions g.ids.now g.ranges.now g.particles (store g.pf.now g.pw.now) c.args.nf c.args.nw (limits g.regions g.particles 0) _ done
+    (sym c.check_lists.ensures ∙ c.in_ok-check_lists.was)
 
 pub returns : goal.returns
 returns c =
-    let g = c.args in
     rw (
-      in_steps g.order.now g.cell_width g.dt (axes g.gravity) g.regions g.ids.now g.ranges.now g.particles (store g.pf.now g.pw.now) g.nf g.nw c.if-order-regions.false,
-      ← c.is_width.ensures,
-      ← c.is_step.ensures,
-      ← c.is_finite_vector.ensures,
-      ← c.check_lists-a.ensures,
-      ← c.check_order-b.ensures,
-      ← c.check_particles.ensures,
+      in_steps _ _ _ _ _ _ _ _ _ _ _ c.if-order-given.false,
+      ← c.is_set.ensures,
+      ← c.check_lists.ensures,
+      c.in_ok-check_lists.was,
+      ← c.check_order.ensures,
+      c.in_ok-check_order.was,
     )
-    (passes _ _ c.in-Done-b.is ∙ passes _ _ c.in-Done.is)
+    c.check_particles.ensures

@@ -1,7 +1,5 @@
--- `solver::scatter_regions` meets its contract: the first i regions of the order are scattered.
-use mathlib.Core.Path.{◌≡◌, refl, ◌∙◌}
-use native.Mathlib.Omega.{arith}
-use lib.ListN.{length}
+-- `solver::scatter_regions` meets its contract: the regions before place-index of the order are scattered.
+use Rattle.std.proofs.Common.{◌≡◌, refl, ◌∙◌, length, arith}
 use Rattle.numeric.specs.Axes.{axes}
 use Rattle.laws.specs.Store.{store}
 use Rattle.particles.proofs.Staging.{still_ready}
@@ -9,22 +7,22 @@ use Rattle.solver.specs.Order.{in_order}
 use Rattle.solver.proofs.Turning.{one_more}
 use Rattle.solver.proofs.scatter_regions.Goals as goal
 
-pub loop-i-init : goal.loop-i-init
+pub loop-place-init : goal.loop-place-init
 unfolding in_order
-loop-i-init c = (omega arith, c.requires.1.nodes_held, refl)
+loop-place-init c = (c.requires.1.nodes_held, refl)
 
 pub scatter_at-requires : goal.scatter_at-requires
-scatter_at-requires c = (c.requires.0 c.loop-i.i (omega (arith, c.loop-i-test.true)), still_ready _ _ _ _ _ _ c.requires.1 c.loop-i.invariant.1)
+scatter_at-requires c =
+    (c.requires.0 c.loop-place.place-index c.loop-place-test.true, still_ready _ _ _ _ _ _ c.requires.1 c.loop-place.invariant.0)
 
-pub loop-i-preserved : goal.loop-i-preserved
-loop-i-preserved c =
-    let g = c.args in
-    let l = c.loop-i in
+pub loop-place-preserved : goal.loop-place-preserved
+loop-place-preserved c =
+    let g = c.args.given in
+    let l = c.loop-place in
     let kept = c.scatter_at.auto in (
-      omega arith,
-      record { floats_long = omega (arith, l.invariant.1.floats_long, kept); words_long = omega (arith, l.invariant.1.words_long, kept) },
-      one_more g.cell_width g.dt (axes g.gravity) g.ids.now g.ranges.now (store g.pf.now g.pw.now) g.order.now l.i _ _ _ l.invariant.2 c.scatter_at.ensures,
+      record { floats_long = omega (arith, l.invariant.0.floats_long, kept); words_long = omega (arith, l.invariant.0.words_long, kept) },
+      one_more g.cell_width g.dt (axes g.gravity) g.ids.now g.ranges.now (store g.pf.now g.pw.now) c.args.order.now l.place-index _ _ _ l.invariant.1 c.scatter_at.ensures,
     )
 
 pub returns : goal.returns
-returns c = let e : c.loop-i.i ≡ length c.args.order.now = omega arith in c.loop-i.invariant.2 ∙ rw e
+returns c = let e : c.loop-place.place-index ≡ length c.args.order.now = omega arith in c.loop-place.invariant.1 ∙ rw e

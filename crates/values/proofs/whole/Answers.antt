@@ -1,4 +1,4 @@
-use mathlib.Core.Path.{◌∙◌}
+use Rattle.std.proofs.Common.{◌∙◌}
 use Rattle.values.specs.Table.{claim}
 use Rattle.values.proofs.whole.Goals as goal
 

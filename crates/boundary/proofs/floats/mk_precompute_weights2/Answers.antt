@@ -1,5 +1,5 @@
 -- `boundary::floats::mk_precompute_weights2` meets its contract: numeric's answer is a list of two, whose entries these are.
-use borrow.Author.Rules.{rules}
+use Rattle.std.proofs.Common.{rules}
 use Rattle.numeric.specs.Kernel.{precompute_weights}
 use Rattle.boundary.proofs.floats.mk_precompute_weights2.Goals as goal
 

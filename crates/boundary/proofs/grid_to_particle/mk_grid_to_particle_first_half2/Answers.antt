@@ -1,7 +1,7 @@
 -- `boundary::grid_to_particle::mk_grid_to_particle_first_half2` meets its contract, by what the function of gather says.
-use borrow.Author.Rules.{rules}
+use Rattle.std.proofs.Common.{rules}
 use Rattle.boundary.proofs.Crossing.{answered}
 use Rattle.boundary.proofs.grid_to_particle.mk_grid_to_particle_first_half2.Goals as goal
 
 pub returns : goal.returns
-returns c = answered _ _ c.grid_to_particle_first_half.ensures c.crossed.ensures
+returns c = answered _ _ c.grid_to_particle_first_half.ensures c.from.ensures

@@ -1,7 +1,5 @@
 -- `boundary::ids::mk_packi2` meets its contract, by what the function of packing says.
-use mathlib.Core.Path.{refl, ap, ap₂, ◌∙◌}
-use mathlib.Core.List.{◌∷◌}
-use borrow.Author.Rules.{rules}
+use Rattle.std.proofs.Common.{refl, ap, ap₂, ◌∙◌, ◌∷◌, rules}
 use Rattle.packing.specs.Ids.{dim2, packed_id, complement}
 use Rattle.boundary.proofs.Crossing.{passed}
 use Rattle.boundary.proofs.ids.mk_packi2.Goals as goal

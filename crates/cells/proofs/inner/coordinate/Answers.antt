@@ -1,10 +1,8 @@
 -- `cells::inner::coordinate` meets its contract: nothing else is on the grid, and what is there is a whole number.
-use Rattle.std.proofs.Common.{◌≡◌, ℕ, zero, suc, ◌≤◌, true, false, ◌&&◌, leb, sym, ap, ◌∙◌, arith, le-leb}
-use mathlib.Core.Bool.{false≢true}
-use borrow.Author.Tests.{lt-leb}
-use lib.Ieee.{Float}
+use Rattle.std.proofs.lemmas.Bool.{lt-leb}
+use Rattle.std.proofs.Common.{◌≡◌, ℕ, zero, suc, ◌≤◌, true, false, ◌&&◌, Float, true≢false, leb, sym, ap, ◌∙◌, arith, le-leb}
 use Rattle.numeric.specs.Round.{round_away, cast_u32, nearest_to}
-use Rattle.numeric.proofs.Patterns.{yes, no, is_nan_lem, no_nan}
+use Rattle.numeric.proofs.Patterns.{yes, is_nan_lem}
 use Rattle.numeric.proofs.Ranges.{and_false, out, out_nan, rounds, whole_range, whole_cast}
 use Rattle.cells.specs.Cells.{in_range}
 use Rattle.cells.specs.Stencil.{IsCoordinate}
@@ -13,7 +11,7 @@ use Rattle.cells.proofs.inner.coordinate.Goals as goal
 
 -- off the grid
 off : (r : Float) → in_range r ≡ false → IsCoordinate r 0
-off r e = record { is = rw e; below = omega arith; whole = λ t. absurd (false≢true (sym e ∙ t)) }
+off r e = record { is = rw e; below = omega arith; whole = λ t. absurd (true≢false (sym t ∙ e)) }
 
 -- x is rounded to the whole number
 rounded : (c : After-nearest_whole-n) → round_away c.args.x ≡ nearest_to c.nearest_whole-n.result
@@ -24,11 +22,8 @@ rounded c =
 range : (c : After-nearest_whole-n) → let n = c.nearest_whole-n.result in in_range (round_away c.args.x) ≡ (leb 1 n && leb n 65535)
 range c = ap in_range (rounded c) ∙ whole_range c.nearest_whole-n.result c.nearest_whole-n.ensures.1
 
-pub returns-then-x : goal.returns-then-x
-returns-then-x c = let x = c.args.x in off _ (out_nan x (is_nan_lem x c.if-x.true))
-
-pub float_to_bits-b : goal.float_to_bits-b
-float_to_bits-b c = no (no_nan _ c.if-x.false)
+pub returns-then-is_nan : goal.returns-then-is_nan
+returns-then-is_nan c = let x = c.args.x in off _ (out_nan x (is_nan_lem x c.if-is_nan.ensures.value))
 
 pub returns-then-b-ge1258291200 : goal.returns-then-b-ge1258291200
 returns-then-b-ge1258291200 c = off _ (out c.args.x (yes c.well_formed.0.1) (omega arith))

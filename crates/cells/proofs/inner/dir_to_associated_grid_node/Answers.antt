@@ -1,6 +1,6 @@
 -- `cells::inner::dir_to_associated_grid_node` meets its contract: an axis at a time.
-use Rattle.std.proofs.Common.{List, get_or, ap}
-use lib.Ieee.{Float, nan}
+use Rattle.std.proofs.Common.{List, get_or, ap, Float}
+use lib.Ieee.{nan}
 use Rattle.cells.specs.Stencil.{dir_to_associated_grid_node}
 use Rattle.cells.proofs.inner.dir_to_associated_grid_node.Goals as goal
 

@@ -1,6 +1,6 @@
 -- `cells::inner::nearest` meets its contract: on the grid a coordinate is a whole number, and has one before it.
-use Rattle.std.proofs.Common.{◌≡◌, ℕ, ◌-◌, ◌^◌, true, sym, ◌∙◌, arith, le→leb}
-use lib.Ieee.{Float, in_float}
+use Rattle.std.proofs.Common.{◌≡◌, ℕ, ◌-◌, ◌^◌, true, sym, ◌∙◌, arith, le→leb, Float}
+use lib.Ieee.{in_float}
 use Rattle.numeric.specs.Round.{cast_u32}
 use Rattle.cells.specs.Cells.{in_range, one_off}
 use Rattle.cells.specs.Stencil.{IsCoordinate}

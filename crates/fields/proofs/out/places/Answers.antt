@@ -1,15 +1,18 @@
--- k - 1 digits are counted, and those of `rest` are left. No more than n + 1 - k of them can be.
-use Prim.Native.Nat.{◌+◌, ◌-◌}
-use mathlib.Core.Path.{◌≡◌}
-use native.Mathlib.Omega.{arith}
-use Rattle.fields.proofs.Writing.{places_more, places_one}
+use Rattle.std.proofs.Common.{suc, ◌<◌, ◌≤◌, ◌*◌, ◌^◌, sym, arith}
+use Rattle.std.proofs.Math.Nat.{pow-suc}
+use Rattle.fields.proofs.Forth.{places_between}
+use Rattle.fields.proofs.Writing.{places_one}
 use Rattle.fields.proofs.out.places.Goals as goal
 
-pub loop-rest-init : goal.loop-rest-init
-loop-rest-init c = (omega arith, let e : c.args.n + 1 - 1 ≡ c.args.n = omega arith in rw e)
+pub returns-in-Some : goal.returns-in-Some
+returns-in-Some c =
+    let n = c.args.n in
+    let k = c.in-Some.k in
+    let low : 10 ^ k ≤ n = grind arith in
+    let high : n < 10 * 10 ^ k = grind arith in
+    let more : n < 10 ^ suc k = rw pow-suc (omega arith) in
+    let same : n ≤ n = omega arith in
+    omega (arith, places_between k n n low more same)
 
-pub loop-rest-preserved : goal.loop-rest-preserved
-loop-rest-preserved c = (omega arith, omega (arith, places_more c.args.n c.loop-rest.k c.loop-rest.rest (omega arith) c.loop-rest.invariant.0))
-
-pub returns : goal.returns
-returns c = omega (arith, places_one (c.args.n + 1 - c.loop-rest.k) c.loop-rest.rest c.loop-rest-test.false)
+pub returns-in-None : goal.returns-in-None
+returns-in-None c = let small : c.args.n < 10 = grind arith in sym (places_one c.args.n c.args.n small)

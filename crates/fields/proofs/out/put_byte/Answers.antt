@@ -1,8 +1,5 @@
-use mathlib.Core.Path.{refl, ◌∙◌}
-use mathlib.Core.List.{◌∷◌, []}
-use native.Mathlib.Numerals.{add-one}
-use native.Mathlib.Omega.{arith}
-use lib.Seq.{set_split}
+use Rattle.std.proofs.Common.{refl, ◌∙◌, ◌∷◌, [], add-one, arith}
+use Rattle.std.proofs.Math.Seq.{set_split}
 use Rattle.fields.proofs.Writing.{fits, full}
 use Rattle.fields.proofs.out.put_byte.Goals as goal
 

@@ -1,7 +1,5 @@
 -- `fluids::fluids_volume::gather_range` meets its contract: of the region's particles the first k are recomputed, and the others as they were.
-use mathlib.Core.Path.{◌≡◌}
-use Prim.Native.Nat.{◌-◌, ◌≤◌}
-use lib.ListN.{length}
+use Rattle.std.proofs.Common.{◌≡◌}
 use Rattle.laws.specs.Store.{store}
 use Rattle.laws.specs.Hits.{run}
 use Rattle.particles.specs.Particles.{particles}
@@ -10,7 +8,4 @@ use Rattle.fluids.specs.Fluids.{recomputed}
 use Rattle.fluids.proofs.fluids_volume.gather_range.Given as goal
 
 abbrev pub invariant-loop-k : goal.invariant-loop-k
-invariant-loop-k l = (l.k ≤ l.count) × (length l.pf ≡ length l.initial.pf) × (length l.pw ≡ length l.initial.pw) × (store l.pf l.pw ≡ run particles (changes_from (recomputed l.cell_width l.ids (store l.nf l.nw)) l.start l.k) (store l.initial.pf l.initial.pw))
-
-abbrev pub decreases-loop-k : goal.decreases-loop-k
-decreases-loop-k l = l.count - l.k
+invariant-loop-k l = let m = l.masses in store l.pf l.pw ≡ run particles (changes_from (recomputed m.cell_width m.ids.now (store m.nf.now m.nw.now)) l.start l.k) (store l.initial.pf l.initial.pw)

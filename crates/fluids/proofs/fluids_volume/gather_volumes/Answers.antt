@@ -1,8 +1,5 @@
 -- `fluids::fluids_volume::gather_volumes` meets its contract: the particles of the regions before r are recomputed, and the others as they were.
-use mathlib.Core.Path.{◌≡◌, ◌∙◌}
-use Prim.Native.Nat.{ℕ, suc, ◌+◌, ◌<◌}
-use native.Mathlib.Omega.{arith}
-use lib.ListN.{length}
+use Rattle.std.proofs.Common.{◌≡◌, ℕ, suc, ◌+◌, length, ◌∙◌, arith}
 use Rattle.laws.specs.Store.{store}
 use Rattle.laws.specs.Hits.{change_at, changes}
 use Rattle.laws.proofs.Hits.{run_none, run_from}
@@ -15,35 +12,24 @@ use Rattle.fluids.proofs.fluids_volume.gather_volumes.Goals as goal
 
 pub loop-r-init : goal.loop-r-init
 unfolding before
-loop-r-init c = (omega arith, omega arith, omega arith, run_none particles _ _)
-
-pub start_of-requires : goal.start_of-requires
-start_of-requires c = omega (arith, c.requires.ranges_long)
-
-pub count_of-requires : goal.count_of-requires
-count_of-requires c = omega (arith, c.requires.ranges_long)
+loop-r-init c = run_none particles _ _
 
 pub gather_range-requires : goal.gather_range-requires
 gather_range-requires c =
-    let l = c.loop-r in
     rw (c.start_of.ensures, c.count_of.ensures)
-    (next_region c.requires _ l.r (omega (arith, c.loop-r-test.true)) l.invariant.3)
+    (next_region c.requires _ c.loop-r.r (omega arith) c.loop-r.invariant)
 
 pub loop-r-preserved : goal.loop-r-preserved
 unfolding before
 loop-r-preserved c =
     let l = c.loop-r in
-    let g = c.args in
+    let m = c.args.masses in
+    let ranges = c.args.ranges.now in
     let e : l.r + 1 ≡ suc l.r = omega arith in
-    let u : l.r < length g.ids.now = omega (arith, c.loop-r-test.true) in
-    let start : c.start_of.result ≡ before g.ranges.now l.r = c.start_of.ensures ∙ c.requires.accepted.covers.begins l.r u in
-    let change : Particle → Particle = recomputed g.cell_width g.ids.now (store g.nf.now g.nw.now) in (
-      omega (arith, u),
-      omega (arith, l.invariant.1, c.gather_range.auto),
-      omega (arith, l.invariant.2, c.gather_range.auto),
-      rw e (run_from particles (change_at (λ (p : ℕ). change)) (before g.ranges.now l.r) (count_of g.ranges.now l.r) _ l.invariant.3 (rw (start, c.count_of.ensures) at c.gather_range.ensures)),
-    )
+    let start : c.start_of.result ≡ before ranges l.r = c.start_of.ensures ∙ c.requires.accepted.covers.begins l.r (omega arith) in
+    let change : Particle → Particle = recomputed m.cell_width m.ids.now (store m.nf.now m.nw.now) in
+    rw e (run_from particles (change_at (λ (p : ℕ). change)) (before ranges l.r) (count_of ranges l.r) _ l.invariant (rw (start, c.count_of.ensures) at c.gather_range.ensures))
 
 pub returns : goal.returns
 unfolding volumes changes
-returns c = let e : c.loop-r.r ≡ length c.args.ids.now = omega arith in c.loop-r.invariant.3 ∙ rw e
+returns c = let e : c.loop-r.r ≡ length c.args.masses.ids.now = omega arith in c.loop-r.invariant ∙ rw e

@@ -1,15 +1,10 @@
--- `fluids::fluids_volume::reset_masses` meets its contract: all nodes but those left are without mass, and the others as they were.
-use mathlib.Core.Path.{◌≡◌}
-use Prim.Native.Nat.{ℕ, ◌*◌, ◌-◌, ◌≤◌}
-use Rattle.laws.specs.Store.{store, Holds}
+-- `fluids::fluids_volume::reset_masses` meets its contract: the first k nodes are without mass, and the others as they were.
+use Rattle.std.proofs.Common.{◌≡◌, ℕ}
+use Rattle.laws.specs.Store.{store}
 use Rattle.laws.specs.Hits.{run, gather, change_at}
-use Rattle.grid.specs.Nodes.{node_form, nodes, region_cells}
+use Rattle.grid.specs.Nodes.{nodes}
 use Rattle.fluids.specs.Fluids.{massless}
 use Rattle.fluids.proofs.fluids_volume.reset_masses.Given as goal
 
-abbrev pub invariant-loop-left : goal.invariant-loop-left
-invariant-loop-left l = (l.left ≤ l.regions * region_cells) × Holds node_form (store l.nf l.nw) (l.regions * region_cells)
-    × (store l.nf l.nw ≡ run nodes (gather (change_at (λ (i : ℕ). massless)) (l.regions * region_cells - l.left)) (store l.initial.nf l.initial.nw))
-
-abbrev pub decreases-loop-left : goal.decreases-loop-left
-decreases-loop-left l = l.left
+abbrev pub invariant-loop-k : goal.invariant-loop-k
+invariant-loop-k l = store l.nf l.nw ≡ run nodes (gather (change_at (λ (i : ℕ). massless)) l.k) (store l.initial.nf l.initial.nw)

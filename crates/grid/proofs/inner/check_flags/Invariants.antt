@@ -1,9 +1,5 @@
 -- `grid::inner::check_flags` meets its contract: before place k every word is a flag.
-use mathlib.Core.Path.{◌≡◌}
-use mathlib.Core.Bool.{Bool, not}
-use mathlib.Core.List.{List}
-use Prim.Native.Nat.{ℕ, ◌≤◌, ◌-◌}
-use lib.ListN.{length, get_or}
+use Rattle.std.specs.Prelude.{◌≡◌, Bool, not, List, ℕ, ◌-◌, length, get_or}
 use Rattle.grid.specs.Answers.{refuse, first_of}
 use Rattle.grid.specs.Table.{is_flag}
 use Rattle.grid.specs.declared.Rule.TheVariants.{Code}
@@ -13,7 +9,4 @@ abbrev pub bad : List ℕ → ℕ → Bool
 bad ws k = not (is_flag (get_or ws k 0))
 
 abbrev pub invariant-loop-k : goal.invariant-loop-k
-invariant-loop-k l = (l.k ≤ length l.words) × (first_of (λ j. refuse (bad l.words j) Code j) 0 (length l.words) ≡ first_of (λ j. refuse (bad l.words j) Code j) l.k (length l.words - l.k))
-
-abbrev pub decreases-loop-k : goal.decreases-loop-k
-decreases-loop-k l = length l.words - l.k
+invariant-loop-k l = first_of (λ j. refuse (bad l.words j) Code j) 0 (length l.words) ≡ first_of (λ j. refuse (bad l.words j) Code j) l.k (length l.words - l.k)

@@ -1,13 +1,8 @@
--- `grid::inner::check_numbers` meets its contract: before place k every float is finite.
-use mathlib.Core.Path.{◌≡◌}
-use mathlib.Core.Bool.{not}
-use mathlib.Core.List.{List}
-use Prim.Native.Nat.{ℕ, ◌≤◌, ◌-◌, ◌/◌}
-use lib.Ieee.{Float, nan}
-use lib.ListN.{length, get_or}
-use Rattle.grid.specs.Answers.{refuse, first_of}
+-- `grid::inner::check_numbers` meets its contract: before place k every number is finite.
+use Rattle.std.specs.Prelude.{◌≡◌, not, List, ℕ, ◌-◌, ◌/◌, length, get_or, Float}
+use Rattle.std.specs.Float.{nan}
+use Rattle.grid.specs.Answers.{Answer, refuse, first_of}
 use Rattle.grid.specs.Table.{finite}
-use Rattle.grid.specs.declared.Answer.{Answer}
 use Rattle.grid.specs.declared.Rule.TheVariants.{NotFinite}
 use Rattle.grid.proofs.inner.check_numbers.Given as goal
 
@@ -15,7 +10,4 @@ abbrev pub judge : List Float → ℕ → ℕ → Answer
 judge xs each k = refuse (not (finite (get_or xs k nan))) NotFinite (k / each)
 
 abbrev pub invariant-loop-k : goal.invariant-loop-k
-invariant-loop-k l = (l.k ≤ length l.floats) × (first_of (judge l.floats l.each) 0 (length l.floats) ≡ first_of (judge l.floats l.each) l.k (length l.floats - l.k))
-
-abbrev pub decreases-loop-k : goal.decreases-loop-k
-decreases-loop-k l = length l.floats - l.k
+invariant-loop-k l = first_of (judge l.floats l.each) 0 (length l.floats) ≡ first_of (judge l.floats l.each) l.k (length l.floats - l.k)

@@ -1,5 +1,5 @@
 -- `grid::inner::empty` meets its contract.
-use mathlib.Core.Path.{refl}
+use Rattle.std.proofs.Common.{refl}
 use Rattle.grid.proofs.inner.empty.Goals as goal
 
 pub returns : goal.returns

@@ -1,9 +1,5 @@
 -- `grid::inner::fits` meets its contract.
-use mathlib.Core.Path.{◌≡◌, sym}
-use Prim.Native.Nat.{◌*◌, ◌%◌}
-use native.Mathlib.Nat.{mul-zero}
-use native.Mathlib.Omega.{arith}
-use borrow.Author.Tests.{ne_eqb}
+use Rattle.std.proofs.Common.{◌≡◌, sym, ◌*◌, ◌%◌, mul-zero, arith, ne_eqb}
 use Rattle.grid.proofs.Lengths.{whole, quotient}
 use Rattle.grid.proofs.inner.fits.Goals as goal
 

@@ -1,11 +1,5 @@
 -- `grid::inner::is_bad_region` meets its contract.
-use mathlib.Core.Path.{◌≡◌, refl, sym, ◌∙◌}
-use mathlib.Core.List.{List}
-use Prim.Native.Nat.{ℕ, zero, suc, ◌-◌}
-use native.Mathlib.Omega.{arith}
-use borrow.Author.Tests.{eq-eqb, ne_eqb}
-use lib.Dec.{ltb}
-use lib.ListN.{get_or}
+use Rattle.std.proofs.Common.{◌≡◌, refl, sym, ◌∙◌, List, ℕ, zero, suc, ◌-◌, arith, eq-eqb, ne_eqb, ltb, get_or}
 use Rattle.packing.specs.Ids.{region}
 use Rattle.grid.specs.Table.{ascends, bad_region}
 use Rattle.grid.proofs.inner.is_bad_region.Goals as goal

@@ -1,5 +1,5 @@
 -- `grid::inner::read_node` meets its contract: the fields are the stretches' entries, in order.
-use mathlib.Core.Path.{refl}
+use Rattle.std.proofs.Common.{refl}
 use Rattle.grid.specs.Nodes.{node_at}
 use Rattle.grid.proofs.inner.read_node.Goals as goal
 

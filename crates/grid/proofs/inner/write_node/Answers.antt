@@ -1,7 +1,5 @@
 -- `grid::inner::write_node` meets its contract: each store leaves the length.
-use mathlib.Core.Path.{refl}
-use native.Mathlib.Omega.{arith}
-use lib.ListN.{length-set}
+use Rattle.std.proofs.Common.{refl, arith, length-set}
 use Rattle.grid.specs.Nodes.{put_node}
 use Rattle.grid.proofs.inner.write_node.Goals as goal
 

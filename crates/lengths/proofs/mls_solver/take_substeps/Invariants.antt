@@ -1,14 +1,9 @@
--- `lengths::mls_solver::take_substeps` meets its contract: after niter substeps the step goes on as the definition does.
-use mathlib.Core.Path.{◌≡◌}
-use mathlib.Core.Bool.{not}
-use Prim.Native.Nat.{◌-◌, ◌≤◌}
-use lib.Dec.{eqb}
-use lib.ListN.{length, drop}
+-- `lengths::mls_solver::take_substeps` meets its contract: after `count` substeps the step goes on as the definition does.
+use Rattle.std.specs.Prelude.{◌≡◌, drop}
 use Rattle.lengths.specs.Lengths.{walk}
 use Rattle.lengths.proofs.mls_solver.take_substeps.Given as goal
 
-abbrev pub invariant-loop-remaining_time : goal.invariant-loop-remaining_time
-invariant-loop-remaining_time l = (l.niter ≤ length l.dts) × (walk (not (eqb l.stop_after_one_substep 0)) l.min_dt l.max_substep_dt 0 l.total l.dts ≡ walk (not (eqb l.stop_after_one_substep 0)) l.min_dt l.max_substep_dt l.niter l.remaining_time (drop l.niter l.dts))
-
-abbrev pub decreases-loop-remaining_time : goal.decreases-loop-remaining_time
-decreases-loop-remaining_time l = length l.dts - l.niter
+abbrev pub invariant-loop-count : goal.invariant-loop-count
+invariant-loop-count l =
+    let goes_on = walk l.stops_after_one l.min_dt l.max_substep_dt in
+    goes_on 0 l.total l.dts ≡ goes_on l.count l.remaining (drop l.count l.dts)

@@ -1,14 +1,9 @@
 -- Printing all fields is, at each turn, printing those that are left at the place.
-use Prim.Native.Nat.{◌+◌, ◌-◌, ◌≤◌}
-use mathlib.Core.Path.{◌≡◌}
-use lib.ListN.{length}
+use Rattle.std.proofs.Common.{◌≡◌, ◌+◌, length}
 use Rattle.fields.specs.Write.{put_at}
 use Rattle.listing.proofs.Printing.{left}
 use Rattle.listing.proofs.lines.put_fields.Given as goal
 
 abbrev pub invariant-loop-k : goal.invariant-loop-k
-invariant-loop-k l = (l.k ≤ length l.kinds) × (l.place + length (left l.kinds l.values l.k) ≡ l.at + length (left l.kinds l.values 0)) × (length l.out ≡ length l.initial.out)
+invariant-loop-k l = (l.place + length (left l.kinds l.values l.k) ≡ l.at + length (left l.kinds l.values 0))
     × (put_at l.initial.out l.at (left l.kinds l.values 0) ≡ put_at l.out l.place (left l.kinds l.values l.k))
-
-abbrev pub decreases-loop-k : goal.decreases-loop-k
-decreases-loop-k l = length l.kinds - l.k

@@ -1,4 +1,4 @@
-use mathlib.Core.Path.{sym, ◌∙◌}
+use Rattle.std.proofs.Common.{sym, ◌∙◌}
 use Rattle.listing.proofs.Printing.{line_full, fields_fit, line_put}
 use Rattle.listing.proofs.lines.put_line.Goals as goal
 

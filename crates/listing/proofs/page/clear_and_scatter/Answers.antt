@@ -1,5 +1,5 @@
 -- Clears and scatters as its calls ensure: what clear is refused for the scatter is refused for too.
-use native.Mathlib.Omega.{arith}
+use Rattle.std.proofs.Common.{arith}
 use Rattle.listing.proofs.Calling.{clear_scatter}
 use Rattle.listing.proofs.page.clear_and_scatter.Goals as goal
 

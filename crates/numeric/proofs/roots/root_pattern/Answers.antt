@@ -1,27 +1,18 @@
 -- `numeric::roots::root_pattern` meets its contract: the exponent is halved, and the digits are shifted by one place fewer where it is odd.
-use Rattle.std.proofs.Common.{ℕ, ◌+◌, ◌*◌, ◌/◌, ◌%◌, ◌^◌, sym, ap, ◌∙◌, arith, lit≤}
-use Rattle.numeric.specs.Bits.{field_units}
+use Rattle.std.proofs.Common.{ℕ, ◌+◌, ◌*◌, ◌/◌, ◌%◌, ◌^◌, ap, ◌∙◌, arith}
 use Rattle.numeric.specs.Root.{units_root}
-use Rattle.numeric.proofs.RootLaws.{enough, subnormal, normal_field, shifted}
+use Rattle.numeric.proofs.RootLaws.{normal_field, shifted}
 use Rattle.numeric.proofs.roots.root_pattern.Goals as goal
-
-pub scaled_root-requires : goal.scaled_root-requires
-scaled_root-requires c = (omega arith, omega arith, enough _ 74 (omega arith) (lit≤ tt), lit≤ tt)
-
-pub returns-then-field-eq0 : goal.returns-then-field-eq0
-returns-then-field-eq0 c =
-    let t = c.args.b % 8388608 in
-    (c.scaled_root.ensures.0 ∙ ap units_root (subnormal t ∙ ap (λ (x : ℕ). field_units x t * 2 ^ 149) (sym c.if-field-eq0.true)), c.scaled_root.ensures.1)
 
 pub leading_root-requires : goal.leading_root-requires
 leading_root-requires c =
     let b = c.args.b in
     let s = shifted (b % 8388608 + 8388608) (b / 8388608 % 2) (omega arith) (omega arith) (omega arith) in
-    (s.1, s.2, omega arith)
+    rw c.from-digits.ensures (s.1, s.2, omega arith)
 
 pub returns : goal.returns
 returns c =
     let b = c.args.b in
     let x = b / 8388608 in
     let s = shifted (b % 8388608 + 8388608) (x % 2) (omega arith) (omega arith) (omega arith) in
-    (c.leading_root.ensures.0 ∙ ap units_root (ap (λ (m : ℕ). m * (2 ^ ((x + 1) / 2 + 62) * 2 ^ ((x + 1) / 2 + 62))) s.0 ∙ normal_field (b % 8388608) x c.if-field-eq0.false), c.leading_root.ensures.1)
+    (rw c.from-digits.ensures at c.leading_root.ensures.0 ∙ ap units_root (ap (λ (m : ℕ). m * (2 ^ ((x + 1) / 2 + 62) * 2 ^ ((x + 1) / 2 + 62))) s.0 ∙ normal_field (b % 8388608) x c.if-field-eq0.false), c.leading_root.ensures.1)

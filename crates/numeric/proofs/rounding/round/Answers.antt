@@ -1,9 +1,9 @@
 -- `numeric::rounding::round` meets its contract: below 2 ^ 23 the nearest whole number with x's sign, and x itself from there on.
-use Rattle.std.proofs.Common.{◌≡◌, ◌^◌, Bool, true, false, leb, sym, ◌∙◌, arith, le→leb, le-leb}
-use borrow.Author.Tests.{lt-leb}
-use lib.Ieee.{binary32, of_int, round, in_float}
+use Rattle.std.proofs.lemmas.Bool.{lt-leb}
+use Rattle.std.proofs.Common.{◌≡◌, Bool, true, false, leb, sym, ◌∙◌, arith, le-leb}
+use lib.Ieee.{binary32, of_int, round}
 use Rattle.numeric.specs.Round.{round_away}
-use Rattle.numeric.proofs.Patterns.{yes, no, bits, is_nan_lem, no_nan, neg_round}
+use Rattle.numeric.proofs.Patterns.{yes, bits, is_nan_lem, neg_round}
 use Rattle.numeric.proofs.Whole.{from_two_to_23, below_two_to_23}
 use Rattle.numeric.proofs.rounding.round.Goals.{After-nearest_whole-y}
 use Rattle.numeric.proofs.rounding.round.Goals as goal
@@ -13,19 +13,12 @@ answer : (c : After-nearest_whole-y) (s : Bool) → leb 2147483648 (bits c.args.
 answer c s e =
     sym (rw (below_two_to_23 c.args.x (yes c.well_formed.0.1) (omega arith), e, c.nearest_whole-y.ensures.0))
 
-pub returns-then-x : goal.returns-then-x
+pub returns-then-is_nan : goal.returns-then-is_nan
 unfolding round_away
-returns-then-x c = rw (is_nan_lem c.args.x c.if-x.true)
-
-pub float_to_bits-b : goal.float_to_bits-b
-float_to_bits-b c = no (no_nan _ c.if-x.false)
+returns-then-is_nan c = rw (is_nan_lem c.args.x c.if-is_nan.ensures.value)
 
 pub returns-then-a-ge1258291200 : goal.returns-then-a-ge1258291200
 returns-then-a-ge1258291200 c = from_two_to_23 c.args.x (yes c.well_formed.0.1) (omega arith)
-
-pub int_to_float-y : goal.int_to_float-y
-unfolding in_float
-int_to_float-y c = le→leb _ (2 ^ 24) c.nearest_whole-y.ensures.1
 
 pub returns-then-b-ge2147483648 : goal.returns-then-b-ge2147483648
 unfolding of_int

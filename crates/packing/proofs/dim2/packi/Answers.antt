@@ -1,4 +1,4 @@
--- `packing::dim2::packi` meets its contract, by what `pack` and `two_complement` say.
+-- `packing::dim2::packi` meets its contract, by what `pack` says.
 use Rattle.std.proofs.Common.{◌∷◌, refl, ap, ◌∙◌, ap₂}
 use Rattle.packing.specs.Ids.{dim2, packed_id}
 use Rattle.packing.proofs.Signed.{passed}
@@ -8,5 +8,5 @@ pub returns : goal.returns
 returns c =
     c.pack.ensures
     ∙ ap (packed_id dim2)
-    (ap₂ ◌∷◌ (passed c.ranges.x c.two_complement.ensures)
-    (ap₂ ◌∷◌ (passed c.ranges.y c.two_complement-2.ensures) refl))
+    (ap₂ ◌∷◌ (passed c.ranges.x c.cast_unsigned.ensures)
+    (ap₂ ◌∷◌ (passed c.ranges.y c.cast_unsigned-2.ensures) refl))

@@ -1,4 +1,4 @@
--- `packing::dim3::packi` meets its contract, by what `pack` and `two_complement` say.
+-- `packing::dim3::packi` meets its contract, by what `pack` says.
 use Rattle.std.proofs.Common.{◌∷◌, refl, ap, ◌∙◌, ap₂}
 use Rattle.packing.specs.Ids.{dim3, packed_id}
 use Rattle.packing.proofs.Signed.{passed}
@@ -8,6 +8,6 @@ pub returns : goal.returns
 returns c =
     c.pack.ensures
     ∙ ap (packed_id dim3)
-    (ap₂ ◌∷◌ (passed c.ranges.x c.two_complement.ensures)
-    (ap₂ ◌∷◌ (passed c.ranges.y c.two_complement-2.ensures)
-    (ap₂ ◌∷◌ (passed c.ranges.z c.two_complement-3.ensures) refl)))
+    (ap₂ ◌∷◌ (passed c.ranges.x c.cast_unsigned.ensures)
+    (ap₂ ◌∷◌ (passed c.ranges.y c.cast_unsigned-2.ensures)
+    (ap₂ ◌∷◌ (passed c.ranges.z c.cast_unsigned-3.ensures) refl)))

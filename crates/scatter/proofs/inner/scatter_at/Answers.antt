@@ -1,5 +1,5 @@
 -- `scatter::inner::scatter_at` meets its contract: the region's loops, for all of a scatter.
-use borrow.Author.Rules.{rules}
+use Rattle.std.proofs.Common.{rules}
 use Rattle.scatter.specs.Scatter.{region_scattered}
 use Rattle.scatter.proofs.inner.scatter_at.Goals as goal
 

@@ -1,17 +1,11 @@
--- `scatter::particle_to_grid::scatter_color` meets its contract: the regions before r that have the colour are scattered.
-use mathlib.Core.Path.{◌≡◌}
-use Prim.Native.Nat.{◌*◌, ◌-◌, ◌≤◌}
-use lib.ListN.{length}
+-- `scatter::particle_to_grid::scatter_color` meets its contract: the regions before this place that have the colour are scattered.
+use Rattle.std.proofs.Common.{◌≡◌, ◌*◌, length}
 use Rattle.laws.specs.Store.{store, Holds}
 use Rattle.laws.specs.Hits.{run, gather}
 use Rattle.grid.specs.Nodes.{node_form, nodes, region_cells}
-use Rattle.scatter.specs.Hit.{changed_for}
 use Rattle.scatter.specs.Scatter.{coloured_hits}
 use Rattle.scatter.proofs.particle_to_grid.scatter_color.Given as goal
 
-abbrev pub invariant-loop-r : goal.invariant-loop-r
-invariant-loop-r l = (l.r ≤ length l.ids) × Holds node_form (store l.nf l.nw) (length l.ids * region_cells)
-    × (store l.nf l.nw ≡ run nodes (gather (coloured_hits l.cell_width (changed_for l.cell_width l.pass) l.ids l.ranges (store l.pf l.pw) l.color) l.r) (store l.initial.nf l.initial.nw))
-
-abbrev pub decreases-loop-r : goal.decreases-loop-r
-decreases-loop-r l = length l.ids - l.r
+abbrev pub invariant-loop-place : goal.invariant-loop-place
+invariant-loop-place g l = Holds node_form (store l.nf l.nw) (length l.s.ids.now * region_cells)
+    × (store l.nf l.nw ≡ run nodes (gather (coloured_hits l.s.cell_width (g.P.Pass.changed_for l.s.pass l.s.cell_width) l.s.ids.now l.s.ranges.now (store l.s.pf.now l.s.pw.now) l.color) l.place) (store l.initial.nf l.initial.nw))

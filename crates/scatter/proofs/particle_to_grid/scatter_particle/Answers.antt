@@ -1,54 +1,32 @@
 -- `scatter::particle_to_grid::scatter_particle` meets its contract: the columns of the stencil below i are hit.
-use mathlib.Core.List.{List}
-use mathlib.Core.Path.{◌≡◌, ap, ◌∙◌}
-use Prim.Native.Nat.{ℕ}
-use native.Mathlib.Omega.{arith}
-use lib.Ieee.{Float}
-use lib.ListN.{get_or}
+use Rattle.std.proofs.Common.{◌≡◌, ap₂, List, ◌∙◌, arith}
+use Rattle.std.specs.Float.Ieee.{Float}
 use Rattle.numeric.specs.Axes.{axes}
 use Rattle.laws.proofs.Hits.{run_none, run_more}
 use Rattle.cells.specs.Stencil.{step_at}
 use Rattle.grid.specs.Nodes.{nodes}
-use Rattle.particles.specs.Blocks.{corner_in, corner_of}
-use Rattle.particles.proofs.Placing.{in_range_lem}
-use Rattle.scatter.specs.Hit.{changed_for, changed_by}
 use Rattle.scatter.specs.Scatter.{column_hits, block_hits}
-use Rattle.scatter.proofs.Hitting.{among}
+use Rattle.scatter.proofs.Hitting.{still_held}
 use Rattle.scatter.proofs.particle_to_grid.scatter_particle.Goals as goal
 
-pub nearest-near-requires : goal.nearest-near-requires
-nearest-near-requires c = in_range_lem c.args.cell_width c.args.q c.requires.0
-
-pub dir_to_associated_grid_node-dir-requires : goal.dir_to_associated_grid_node-dir-requires
-dir_to_associated_grid_node-dir-requires c = c.nearest-near.ensures.0
-
 pub loop-i-init : goal.loop-i-init
-loop-i-init c = (omega arith, c.requires.2, run_none nodes _ _)
-
-pub hit_column-requires : goal.hit_column-requires
-hit_column-requires c =
-    let places = among c.args.block.now _ _ _ c.requires.1 c.loop-i.invariant.1 in
-    (c.precompute_weights-w.ensures, c.corner_of-corner.ensures.1, c.step.ensures.1, places.0, places.1)
+loop-i-init g c = (c.requires.2, run_none nodes _ _)
 
 pub loop-i-preserved : goal.loop-i-preserved
-loop-i-preserved c =
-    let l = c.loop-i in
-    let kept = c.hit_column.auto in
-    let g = c.args in (
-      omega arith,
-      record { floats_long = omega (arith, l.invariant.1.floats_long, kept); words_long = omega (arith, l.invariant.1.words_long, kept) },
-      run_more nodes (λ i. column_hits g.block.now (changed_by g.cell_width (axes c.dir_to_associated_grid_node-dir.result) c.load_of-load.result) c.corner_of-corner.result (step_at i)) _ _ l.invariant.2
+loop-i-preserved g c =
+    let a = c.args in
+    let l = c.loop-i.invariant in (
+      still_held l.0 (omega (arith, c.hit_column.auto)) (omega (arith, c.hit_column.auto)),
+      run_more nodes (λ i. column_hits a.block.now (g.P.Pass.changed_by a.pass c.spot_of-at.result.cell_width (axes c.spot_of-at.result.dir) c.load-load.result) c.spot_of-at.result.corner (step_at i)) _ _ l.1
           (rw c.step.ensures.0 at c.hit_column.ensures),
     )
 
 pub returns : goal.returns
 unfolding block_hits
-returns c =
-    let g = c.args in
+returns g c =
+    let a = c.args in
     let e : c.loop-i.i ≡ 3 = omega arith in
-    let load = c.load_of-load in
-    let change : changed_by g.cell_width (axes c.dir_to_associated_grid_node-dir.result) load.result ≡ changed_for g.cell_width g.pass g.q
-    = ap (λ (dir : List Float). changed_by g.cell_width dir load.result) c.dir_to_associated_grid_node-dir.ensures ∙ load.ensures in
-    let corner : c.corner_of-corner.result ≡ corner_of g.cell_width g.q
-    = c.corner_of-corner.ensures.0 ∙ ap (λ (first : List ℕ). corner_in (get_or first 0 0) (get_or first 1 0)) c.nearest-near.ensures.1 in
-    c.loop-i.invariant.2 ∙ rw (e, change, corner)
+    let at = c.spot_of-at in
+    let change : g.P.Pass.changed_by a.pass at.result.cell_width (axes at.result.dir) c.load-load.result ≡ g.P.Pass.changed_for a.pass a.cell_width a.q
+    = ap₂ (λ (h : Float) (dir : List Float). g.P.Pass.changed_by a.pass h dir c.load-load.result) at.ensures.width at.ensures.way ∙ c.load-load.ensures in
+    c.loop-i.invariant.1 ∙ rw (e, change, at.ensures.start)

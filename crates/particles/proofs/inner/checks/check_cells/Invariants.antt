@@ -1,13 +1,8 @@
--- `particles::inner::checks::check_cells` meets its contract: before place k every region is listed.
-use mathlib.Core.Path.{◌≡◌}
-use Prim.Native.Nat.{◌-◌, ◌≤◌}
-use lib.ListN.{length, drop}
+-- `particles::inner::checks::check_cells` meets its contract: before a place every region is listed.
+use Rattle.std.proofs.Common.{◌≡◌, drop}
 use Rattle.grid.specs.Table.{all}
 use Rattle.particles.specs.Table.{listed}
 use Rattle.particles.proofs.inner.checks.check_cells.Given as goal
 
-abbrev pub invariant-loop-k : goal.invariant-loop-k
-invariant-loop-k l = (l.k ≤ length l.cell_ids) × (all (listed l.ids) l.cell_ids ≡ all (listed l.ids) (drop l.k l.cell_ids))
-
-abbrev pub decreases-loop-k : goal.decreases-loop-k
-decreases-loop-k l = length l.cell_ids - l.k
+abbrev pub invariant-loop-cell_id : goal.invariant-loop-cell_id
+invariant-loop-cell_id l = all (listed l.ids) l.cell_ids ≡ all (listed l.ids) (drop l.cell_id-index l.cell_ids)

@@ -1,36 +1,14 @@
--- `particles::inner::checks::do_particles_stand` meets its contract: all but those that are left stand.
-use mathlib.Core.Bool.{true≢false}
-use mathlib.Core.Logic.{⊎_elim}
-use mathlib.Core.Path.{◌≡◌, sym, subst}
-use Prim.Native.Nat.{◌+◌, ◌-◌, ◌≤◌, ◌<◌}
-use native.Mathlib.Nat.{eq-or-lt_of_le}
-use native.Mathlib.Omega.{arith}
+-- `particles::inner::checks::do_particles_stand` meets its contract: each particle of the range stands.
+use Rattle.std.proofs.Common.{rules, tests}
+use Rattle.laws.specs.Store.{store}
+use Rattle.particles.specs.Particles.{particle_at}
 use Rattle.particles.specs.Blocks.{Stands}
-use Rattle.particles.specs.declared.particle.Particle.{Particle}
+use Rattle.particles.proofs.Ranges.{each_in_range}
 use Rattle.particles.proofs.inner.checks.do_particles_stand.Goals as goal
 
-pub loop-left-init : goal.loop-left-init
-loop-left-init c = (omega arith, λ k l u. absurd (omega arith))
-
-pub read_particle-requires : goal.read_particle-requires
-read_particle-requires c = let p = c.requires in (omega (arith, p), omega (arith, p))
-
-pub returns-then-not-does_particle_stand : goal.returns-then-not-does_particle_stand
-returns-then-not-does_particle_stand c e = absurd (true≢false (sym e))
-
-pub loop-left-preserved : goal.loop-left-preserved
-loop-left-preserved c =
-    let l = c.loop-left in
-    let a = c.args in
-    let p = a.start + a.count - l.left in
-    let stands = subst (λ (q : Particle). Stands a.h a.corner.x a.corner.y q) c.read_particle.ensures (c.does_particle_stand.ensures c.if-not-does_particle_stand.false) in (
-      omega arith,
-      λ k u v.
-          ⊎_elim
-          (λ (same : k ≡ p). rw same stands)
-          (λ (less : k < p). l.invariant.1 k u (omega (arith, less)))
-          (eq-or-lt_of_le (let w : k ≤ p = omega arith in w)),
-    )
-
 pub returns : goal.returns
-returns c e k l u = c.loop-left.invariant.1 k l (omega arith)
+returns c =
+    let p = c.args.part in
+    let s = p.sample in
+    let corner = c.args.corner in
+    each_in_range (λ k. Stands s.h corner.x corner.y (particle_at (store s.pf.now s.pw.now) k)) p.start p.count c.all.ensures.ran (λ x q k. search (rules, tests))

@@ -1,8 +1,5 @@
 -- `particles::inner::checks::does_stencil_stand` meets its contract: the corner is the particle's.
-use mathlib.Core.Path.{◌≡◌, ap, ◌∙◌, subst}
-use mathlib.Core.List.{List}
-use Prim.Native.Nat.{ℕ}
-use lib.ListN.{get_or}
+use Rattle.std.proofs.Common.{◌≡◌, ap, ◌∙◌, subst, List, ℕ, get_or}
 use Rattle.particles.specs.Blocks.{corner_in, corner_of, AllThere}
 use Rattle.particles.proofs.Placing.{in_range_lem}
 use Rattle.particles.proofs.inner.checks.does_stencil_stand.Goals as goal

@@ -1,70 +1,32 @@
--- `particles::inner::checks::first_particle` meets its contract: the rule refuses none but those that are left.
-use mathlib.Core.Path.{◌≡◌, sym, ap, ◌∙◌, subst}
-use mathlib.Core.Bool.{true, false}
-use Prim.Native.Nat.{ℕ, ◌+◌, ◌-◌, ◌≤◌, ◌<◌}
-use native.Mathlib.Omega.{arith}
+-- `particles::inner::checks::first_particle` meets its contract: the rule refuses none before p.
+use Rattle.std.proofs.Common.{arith, rules, refl, ◌+◌, ◌-◌, ◌≡◌, sym, ap, ◌∙◌}
 use Rattle.laws.specs.Store.{store}
-use Rattle.laws.specs.Refusals as Refusals
-use Rattle.laws.proofs.Refusals.{first_stop, first_go}
-use Rattle.grid.specs.Answers.{refused, refuse, first_of}
-use Rattle.grid.specs.declared.Answer.{Answer}
-use Rattle.grid.specs.declared.Answer.TheVariants.{Done}
-use Rattle.grid.proofs.Answers.{stops}
-use Rattle.particles.specs.Table.{judged, first_particle}
-use Rattle.particles.specs.declared.particle.Particle.{Particle}
+use Rattle.laws.proofs.Refusals.{first_stop, first_go, first_end}
+use Rattle.grid.specs.Answers.{refused, done}
+use Rattle.particles.specs.Table.{first_particle}
 use Rattle.particles.proofs.inner.checks.first_particle.Invariants.{at}
 use Rattle.particles.proofs.inner.checks.first_particle.Goals as goal
 
--- the first of n, of which k are left
-module _ (answers : ℕ → Answer) (n k : ℕ) (positive : 0 < k) (enough : k ≤ n) where
-  back : n - (n - k) ≡ k
-  back = omega arith
-
-  stop : (a : Answer) → a ≡ answers (n - k) → refused a ≡ true → first_of answers (n - k) k ≡ a
-  stop a e r = subst (λ (x : ℕ). first_of answers (n - k) x ≡ a) back (first_stop refused Done answers n (n - k) a (omega arith) (sym e) r)
-
-  go : refused (answers (n - k)) ≡ false → first_of answers (n - k) k ≡ first_of answers (n - (k - 1)) (k - 1)
-  go e =
-      let i : n - k + 1 ≡ n - (k - 1) = omega arith in
-      let j : n - (n - (k - 1)) ≡ k - 1 = omega arith in
-      subst (λ (x : ℕ). first_of answers (n - k) x ≡ first_of answers (n - (k - 1)) (k - 1)) back
-      (first_go refused Done answers n (n - k) (omega arith) e ∙ rw (i, j))
-
-pub loop-left-init : goal.loop-left-init
+pub loop-p-init : goal.loop-p-init
 unfolding first_particle
-loop-left-init c =
-    let a = c.args in
-    let e : a.start + a.count - a.count ≡ a.start = omega arith in
-    (omega arith, rw e)
+loop-p-init c = let e : c.args.start + c.args.count - c.args.start ≡ c.args.count = omega arith in rw e refl
 
-pub read_particle-requires : goal.read_particle-requires
-read_particle-requires c = omega arith
-
-pub returns-in_default : goal.returns-in_default
-returns-in_default c =
+pub returns-in_err-judge : goal.returns-in_err-judge
+returns-in_err-judge c =
     let a = c.args in
-    let l = c.loop-left in
-    let s = store a.pf.now a.pw.now in
-    sym (l.invariant.1
-    ∙ stop (at a.rule a.h a.ids.now a.region s) (a.start + a.count) l.left (omega arith) (omega arith) c.judge-a.result
-    (c.judge-a.ensures ∙ ap (λ (q : Particle). refuse (judged a.rule a.h a.ids.now a.region q) a.rule (a.start + a.count - l.left)) c.read_particle.ensures)
-    (stops c.judge-a.result (omega arith)))
+    let r = c.in_err-judge.was in
+    let bad = at a.rule a.h a.ids.now a.region (store a.pf.now a.pw.now) in
+    let e : bad c.loop-p.p ≡ c.judge.result = rw (← c.read_particle.ensures) (sym c.judge.ensures) in
+    sym (c.loop-p.invariant ∙ first_stop refused done bad _ _ _ (omega arith) (e ∙ r) refl ∙ search rules)
 
-pub loop-left-preserved : goal.loop-left-preserved
-loop-left-preserved c =
+pub loop-p-preserved : goal.loop-p-preserved
+loop-p-preserved c =
     let a = c.args in
-    let l = c.loop-left in
-    let s = store a.pf.now a.pw.now in (
-      omega arith,
-      l.invariant.1
-          ∙ go (at a.rule a.h a.ids.now a.region s) (a.start + a.count) l.left (omega arith) (omega arith)
-          (ap refused
-          (sym (c.judge-a.ensures ∙ ap (λ (q : Particle). refuse (judged a.rule a.h a.ids.now a.region q) a.rule (a.start + a.count - l.left)) c.read_particle.ensures)
-          ∙ c.in-Done.is)),
-    )
+    c.loop-p.invariant
+    ∙ first_go refused done (at a.rule a.h a.ids.now a.region (store a.pf.now a.pw.now)) _ _ (omega arith)
+    (rw (← c.read_particle.ensures) (ap refused (sym c.judge.ensures ∙ c.in_ok-judge.was)))
 
 pub returns : goal.returns
-unfolding Refusals.first_of
 returns c =
-    let e : c.loop-left.left ≡ 0 = omega arith in
-    sym (c.loop-left.invariant.1 ∙ rw e)
+    let a = c.args in
+    sym (c.loop-p.invariant ∙ first_end refused done (at a.rule a.h a.ids.now a.region (store a.pf.now a.pw.now)) _ _ (omega arith))

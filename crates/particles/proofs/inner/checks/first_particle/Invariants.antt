@@ -1,11 +1,7 @@
--- `particles::inner::checks::first_particle` meets its contract: the rule refuses none but those that are left.
-use mathlib.Core.Path.{◌≡◌}
-use mathlib.Core.List.{List}
-use Prim.Native.Nat.{ℕ, ◌+◌, ◌-◌, ◌≤◌}
-use lib.Ieee.{Float}
+-- `particles::inner::checks::first_particle` meets its contract: the rule refuses none before p.
+use Rattle.std.proofs.Common.{◌≡◌, List, ℕ, ◌+◌, ◌-◌, Float}
 use Rattle.laws.specs.Store.{Store, store}
-use Rattle.grid.specs.Answers.{refuse, first_of}
-use Rattle.grid.specs.declared.Answer.{Answer}
+use Rattle.grid.specs.Answers.{refuse, first_of, Answer}
 use Rattle.grid.specs.declared.Rule.{Rule}
 use Rattle.particles.specs.Particles.{particle_at}
 use Rattle.particles.specs.Table.{judged, first_particle}
@@ -15,8 +11,5 @@ use Rattle.particles.proofs.inner.checks.first_particle.Given as goal
 abbrev pub at : Rule → Float → List ℕ → ℕ → Store → ℕ → Answer
 at rule h ids r s k = refuse (judged rule h ids r (particle_at s k)) rule k
 
-abbrev pub invariant-loop-left : goal.invariant-loop-left
-invariant-loop-left l = (l.left ≤ l.count) × (first_particle l.rule l.h l.ids l.region (store l.pf l.pw) l.start l.count ≡ first_of (at l.rule l.h l.ids l.region (store l.pf l.pw)) (l.start + l.count - l.left) l.left)
-
-abbrev pub decreases-loop-left : goal.decreases-loop-left
-decreases-loop-left l = l.left
+abbrev pub invariant-loop-p : goal.invariant-loop-p
+invariant-loop-p l = first_particle l.rule l.h l.ids l.region (store l.pf l.pw) l.start l.count ≡ first_of (at l.rule l.h l.ids l.region (store l.pf l.pw)) l.p (l.start + l.count - l.p)

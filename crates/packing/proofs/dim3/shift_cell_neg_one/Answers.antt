@@ -1,8 +1,0 @@
--- `packing::dim3::shift_cell_neg_one` meets its contract: antt computes the shift.
-use Rattle.packing.specs.Mask.{packed, place}
-use Rattle.packing.specs.Ids.{dim3, diagonal}
-use Rattle.packing.proofs.dim3.shift_cell_neg_one.Goals as goal
-
-pub returns : goal.returns
-unfolding diagonal dim3 packed place
-returns c = c.packed_add.ensures

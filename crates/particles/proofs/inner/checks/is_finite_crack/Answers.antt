@@ -1,6 +1,0 @@
--- `particles::inner::checks::is_finite_crack` meets its contract.
-use mathlib.Core.Bool.{and-true}
-use Rattle.particles.proofs.inner.checks.is_finite_crack.Goals as goal
-
-pub returns : goal.returns
-returns c = rw (and-true, c.is_finite.ensures, c.is_finite-2.ensures, c.is_finite-3.ensures)

@@ -1,9 +1,0 @@
--- The buffer keeps its length.
-use Rattle.std.proofs.Common.{◌≡◌, length}
-use Rattle.replay.proofs.read_line.Given as goal
-
-abbrev pub invariant-loop-turns : goal.invariant-loop-turns
-invariant-loop-turns g l = length l.buf ≡ length l.initial.buf
-
-abbrev pub decreases-loop-turns : goal.decreases-loop-turns
-decreases-loop-turns g l = l.turns

@@ -1,8 +1,0 @@
--- `update::inner::handling_of` meets its contract.
-use Rattle.update.proofs.inner.handling_of.Goals as goal
-
-pub returns-in-0 : goal.returns-in-0
-returns-in-0 c = rw c.in-0.is
-
-pub returns-in-1 : goal.returns-in-1
-returns-in-1 c = rw c.in-1.is
