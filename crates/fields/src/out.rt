@@ -1,6 +1,6 @@
 // Writes into a lent slice, from a place on. Each function answers the place after what it wrote;
 // where that does not fit it writes nothing and answers the place it was given.
-ghost use Rattle.std.specs.Prelude.{◌≡◌, ◌∷◌, [], ◌≤◌, ◌<◌, length};
+ghost use Rattle.std.specs.Prelude.{◌≡◌, ◌++◌, ◌∷◌, [], ◌+◌, ◌≤◌, ◌<◌, length, take, drop};
 ghost use Rattle.fields.specs.Write.{glyph_of, digits_of, places_of, text_of, put_at, place_after};
 
 // The last `digits` digits of n in upper case hexadecimal.
@@ -40,8 +40,18 @@ pub fn put_bytes(out: &mut [u8], at: usize, s: &[u8]) -> usize
     if out.len() < at || out.len() - at < s.len() {
         return at;
     }
-    out[at..at + s.len()].copy_from_slice(s);
+    copy(out, at, s);
     at + s.len()
+}
+
+// The bytes of s, from `at` on. One by one: `copy_from_slice` would have the archive ask its host for memmove.
+fn copy(out: &mut [u8], at: usize, s: &[u8])
+    requires { at + length s.now ≤ length out.old }
+    ensures { out.new ≡ take at out.old ++ (s.now ++ drop (at + length s.now) out.old) }
+{
+    for i in 0..s.len() {
+        out[at + i] = s[i];
+    }
 }
 
 // The last `digits` digits of n in base.

@@ -1,5 +1,5 @@
-use Rattle.std.proofs.Common.{◌+◌, ◌≤◌, arith, length, refl}
-use Rattle.fields.proofs.Writing.{fits, full, part_fits}
+use Rattle.std.proofs.Common.{arith, length, refl, ◌∙◌}
+use Rattle.fields.proofs.Writing.{fits, full}
 use Rattle.fields.proofs.out.put_bytes.Goals as goal
 
 pub returns-then-out-at : goal.returns-then-out-at
@@ -11,8 +11,5 @@ returns-then-out-at c =
 pub returns : goal.returns
 returns c =
     let a = c.args in
-    let room : a.at + length a.s.now ≤ length a.out.now = omega arith in
-    record {
-      out_after = part_fits a.out.now a.at a.s.now (length a.s.now) refl c.copy_from_slice.ensures.after room;
-      value = (fits a.out.now a.at a.s.now (length a.s.now) refl room).1;
-    }
+    let p = fits a.out.now a.at a.s.now (length a.s.now) refl (omega arith) in
+    record { out_after = c.copy.ensures ∙ p.0; value = p.1 }
