@@ -4,13 +4,15 @@
 ghost use Rattle.std.specs.Prelude.{◌≡◌, [], ◌∷◌};
 ghost use Rattle.packing.specs.Ids.{dim2, packed_id, coordinates, complement};
 
-use crate::masked_add;
 use crate::morton::{put, take};
 use crate::space::Space;
+use crate::{PACK_HEADER, masked_add};
 
 pub const BLOCK_MX: u64 = 0x5555_5555_5555_50c0;
 
 pub const BLOCK_MY: u64 = 0xaaaa_aaaa_aaaa_a300;
+
+pub const REGION_COLOR_MASK: u64 = 0x3000;
 
 pub const PACKED_NEG_ONE: u64 = 18446744073709548480;
 
@@ -40,7 +42,8 @@ impl Space<9, 3> for Plane {
     }
 
     fn colors() -> u64 {
-        4
+        prove!(REGION_COLOR_MASK % (1 << PACK_HEADER) == 0);
+        (REGION_COLOR_MASK >> PACK_HEADER) + 1
     }
 
     fn neg_one() -> u64 {

@@ -4,15 +4,17 @@
 ghost use Rattle.std.specs.Prelude.{◌≡◌, [], ◌∷◌};
 ghost use Rattle.packing.specs.Ids.{dim3, packed_id, coordinates, complement};
 
-use crate::masked_add;
 use crate::morton::{put, take};
 use crate::space::Space;
+use crate::{PACK_HEADER, masked_add};
 
 pub const BLOCK_MX: u64 = 0x1249_2492_4924_90c0;
 
 pub const BLOCK_MY: u64 = 0x2492_4924_9249_2300;
 
 pub const BLOCK_MZ: u64 = 0x4924_9249_2492_4c00;
+
+pub const REGION_COLOR_MASK: u64 = 0x7000;
 
 pub const PACKED_NEG_ONE: u64 = 18446744073709551552;
 
@@ -46,7 +48,8 @@ impl Space<27, 7> for Solid {
     }
 
     fn colors() -> u64 {
-        8
+        prove!(REGION_COLOR_MASK % (1 << PACK_HEADER) == 0);
+        (REGION_COLOR_MASK >> PACK_HEADER) + 1
     }
 
     fn neg_one() -> u64 {
