@@ -165,20 +165,13 @@ pub fn first_refusal(a: Answer, b: Answer) -> Answer
 pub fn check_call(lengths: bool, limited: Answer, settings: bool, own: Answer) -> Answer
     ensures { result ≡ called lengths limited settings own }
 {
-    if !lengths {
-        return Err(Refusal {
-            rule: Rule::Length,
-            index: 0,
-        });
-    }
-    limited?;
-    if !settings {
-        return Err(Refusal {
-            rule: Rule::Setting,
-            index: 0,
-        });
-    }
-    own
+    first_refusal(
+        refuse(!lengths, Rule::Length, 0),
+        first_refusal(
+            limited,
+            first_refusal(refuse(!settings, Rule::Setting, 0), own),
+        ),
+    )
 }
 
 // The first of words, one a record, that is no flag.
