@@ -25,6 +25,9 @@ pub enum Operation {
     StencilGradient,
 }
 
+// The longest question: a letter, and five fields, each a tab and eight digits.
+const MOST_BYTES: usize = 46;
+
 // A field that the operation does not have is 0.
 #[derive(Clone, Copy, Debug, PartialEq, Eq)]
 pub struct Question {
@@ -35,6 +38,10 @@ pub struct Question {
 impl Question {
     // The question that a line is, if it is one.
     pub fn read(text: &[u8]) -> Option<Question> {
+        // A longer line is none, and is not looked through for tabs.
+        if text.len() > MOST_BYTES {
+            return None;
+        }
         let mut parts = text.split(|b| *b == b'\t');
         let operation = Operation::of(parts.next()?)?;
         let mut fields = [0; 5];

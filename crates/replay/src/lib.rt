@@ -73,7 +73,8 @@ pub fn next<R: Read, P: Print>(
         if !begins(buf, place.from, place.to, b'#') {
             return Some(place);
         }
-        write(output, &buf[place.from..place.next]);
+        write(output, &buf[place.from..place.to]);
+        write(output, b"\n");
         at = place;
     }
     None
