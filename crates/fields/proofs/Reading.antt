@@ -1,51 +1,32 @@
 -- How `place_of` and `onward` go over a list, and what is read in a part of one. Assumes nothing.
-use Rattle.std.proofs.Common.{min, ℕ, suc, ◌+◌, ◌-◌, ◌*◌, ◌^◌, ◌≤◌, ◌<◌, ◌≡◌, refl, sym, ap, ◌∙◌, Bool, true, false, cond, Option, Some, None, List, [], ◌∷◌, le-mul_of_pos_right, add-one, arith, length, take, get_or, length-take, drop, drop_of_length-le, drop-cons, eqb, leb, ltb, ne_eqb, lt-ltb, le-ltb, le-leb, ltb-true, ltb-false, Bor, unwrap_or, MatchOption, inl, inr, position}
+use Rattle.std.proofs.Common.{ℕ, suc, ◌+◌, ◌*◌, ◌^◌, ◌≤◌, ◌<◌, ◌≡◌, refl, sym, ap, ◌∙◌, Bool, true, false, cond, Option, Some, None, List, [], ◌∷◌, le-mul_of_pos_right, add-one, arith, length, take, get_or, length-take, drop, drop_of_length-le, drop-cons, get_or-take, eq-eqb, eqb, leb, ltb, ne_eqb, lt-ltb, le-ltb, le-leb, ltb-true, Bor, MatchOption, inl, inr}
 use Rattle.std.proofs.Math.Seq.{slice}
-use Rattle.std.specs.List.{position_or_len}
 use Rattle.std.proofs.lemmas.Bool.{eqb-false, lt-leb}
 use Rattle.std.specs.Slice.{IsGetRangeResult}
-use Rattle.std.proofs.lemmas.List.{take_min}
 use Rattle.std.proofs.lemmas.Slice.{between_is}
-use Rattle.std.proofs.lemmas.List.Recursion.{is_position_or_len}
 use Rattle.fields.specs.Read.{before, place_of, digit_of, onward, bounded, number_of, hex_of, decimal_of, read_in}
 
-pub before_found : (b : ℕ) (xs : List ℕ) → before b xs ≡ position_or_len (λ x. eqb x b) xs
-unfolding before
-before_found b = is_position_or_len (before b) (λ x. eqb x b) refl (λ x xs. ap (cond (eqb x b) 0) (omega arith))
+module _ (b i end stop : ℕ) (s : List ℕ) (e : stop ≡ length (take end s)) where
+  within : i < stop → i < end
+  within h = omega (arith, length-take end s)
 
-before_most : (b : ℕ) (xs : List ℕ) → before b xs ≤ length xs
-unfolding before
-before_most b [] = omega arith
-before_most b (x ∷ xs) = go (eqb x b) (before_most b xs)
-  where
-    go : (t : Bool) → before b xs ≤ length xs → cond t 0 (suc (before b xs)) ≤ suc (length xs)
-    go true h = omega arith
-    go false h = omega arith
-
--- the place by the position of the first b in the part that is looked through
-module _ (b at end stop : ℕ) (s : List ℕ) (e : stop ≡ min end (length s)) where
-  abbrev pub part : List ℕ
-  part = take (stop - at) (drop at s)
-
-  part_is : part ≡ drop at (take end s)
-  part_is = between_is s at stop ∙ rw (e, take_min)
-
-  pub place_past : stop ≤ at → stop ≡ place_of b at (take end s)
+  pub place_hit : i < stop → get_or s i 0 ≡ b → place_of b i (take end s) ≡ i
   unfolding place_of before
-  place_past h =
-      let l : length (take end s) ≤ at = rw length-take (omega arith) in
-      rw (drop_of_length-le (take end s) l, length-take) (omega arith)
+  place_hit h q =
+      let l : i < length (take end s) = omega arith in
+      rw (drop-cons (take end s) i 0 l, get_or-take end s i 0 (within h), eq-eqb _ _ q) (omega arith)
 
-  place_is : at ≤ stop → place_of b at (take end s) ≡ at + before b part
-  unfolding place_of
-  place_is h = rw (part_is, length-take) (omega arith)
+  pub place_miss : i < stop → (get_or s i 0 ≡ b → ⊥) → place_of b i (take end s) ≡ place_of b (i + 1) (take end s)
+  unfolding place_of before
+  place_miss h q =
+      let l : i < length (take end s) = omega arith in
+      rw (drop-cons (take end s) i 0 l, get_or-take end s i 0 (within h), ne_eqb _ _ q, add-one) (omega arith)
 
-  pub place_found : at ≤ stop → (r : Option ℕ) → r ≡ position (λ x. eqb x b) part → at + unwrap_or r (length part) ≡ place_of b at (take end s)
-  place_found h r q = rw (place_is, q, ← before_found b part) (go (ltb (before b part) (length part)) refl)
-    where
-      go : (t : Bool) → ltb (before b part) (length part) ≡ t → at + unwrap_or (cond t (Some (before b part)) None) (length part) ≡ at + before b part
-      go true l = refl
-      go false l = omega (arith, ltb-false (before b part) (length part) l, before_most b part)
+  pub place_end : stop ≤ i → place_of b i (take end s) ≡ stop
+  unfolding place_of before
+  place_end h =
+      let l : length (take end s) ≤ i = omega arith in
+      rw (drop_of_length-le (take end s) l) (omega arith)
 
 -- a number of 2^64 or more stays too large
 pub too_large : (base n : ℕ) (xs : List ℕ) → 2 ^ 64 ≤ n → bounded (onward base n xs) ≡ None

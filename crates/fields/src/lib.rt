@@ -10,17 +10,21 @@ ghost use Rattle.std.specs.Prelude.{◌≡◌, ◌≤◌, ◌%◌, ◌^◌, ◌<
 ghost use Rattle.fields.specs.Read.{place_of, digit_of, number_of, hex_of, decimal_of, read_in, signed_of};
 
 // The place of the first `byte` of s at or after `at` and before `end`, or `end`, or s's length
-// where that is less. A line ends at the first line feed, a field at the first tab in its line.
+// where that is less. A line ends at the first line feed, a field at the first tab in its line. By
+// a place of its own: of a slip in `position` that passes places over, no fact would tell.
 pub fn find(s: &[u8], at: usize, end: usize, byte: u8) -> usize
     ensures value { result ≡ place_of byte at (take end s.now) }
     ensures lower_bound { (min at (min end (length s.now)) ≤ result) × (result ≤ min end (length s.now)) }
 {
     let stop = end.min(s.len());
-    if stop <= at {
-        return stop;
+    let mut place = at;
+    while place < stop {
+        if s[place] == byte {
+            return place;
+        }
+        place += 1;
     }
-    let part = &s[at..stop];
-    at + part.iter().position(|b| *b == byte).unwrap_or(part.len())
+    stop
 }
 
 // The number that the bytes of s from `from` up to `to` spell as exactly `digits` digits, 1 to 16,

@@ -1,18 +1,21 @@
-use Rattle.std.proofs.Common.{◌≤◌, eqb, arith, rules, tests}
-use Rattle.std.proofs.lemmas.Iterator.{YieldsList-from_slice}
-use Rattle.std.proofs.lemmas.Iterator.Search.{position_from_yields_List}
-use Rattle.fields.proofs.Reading.{part, place_past, place_found}
+use Rattle.std.proofs.Common.{refl, sym, ◌∙◌, arith, length-take}
+use Rattle.fields.proofs.Reading.{place_hit, place_miss, place_end}
 use Rattle.fields.proofs.find.Goals as goal
 
-pub returns-then-stop-at-clause-value : goal.returns-then-stop-at-clause-value
-returns-then-stop-at-clause-value c =
-    let a = c.args in
-    place_past a.byte a.at a.end _ a.s.now c.min-stop.ensures c.if-stop-at.true
+pub loop-place-init : goal.loop-place-init
+loop-place-init c = (c.min-stop.ensures, omega arith, rw length-take c.min-stop.ensures, refl)
 
-pub returns-clause-value : goal.returns-clause-value
-returns-clause-value c =
-    let a = c.args in
-    let xs = part a.byte a.at a.end c.min-stop.result a.s.now c.min-stop.ensures in
-    let inside : a.at ≤ c.min-stop.result = omega arith in
-    let at_first = position_from_yields_List (λ x. eqb x a.byte) _ _ c.position.result c.position.ensures.ran (YieldsList-from_slice xs cc) (λ x b q k. search (rules, tests)) in
-    rw c.unwrap_or.ensures (place_found a.byte a.at a.end _ a.s.now c.min-stop.ensures inside _ at_first)
+pub returns-then-s-place : goal.returns-then-s-place
+returns-then-s-place c =
+    let p = c.args in
+    record { value = sym (c.loop-place.invariant.3 ∙ place_hit _ _ p.end _ p.s.now c.loop-place.invariant.2 c.loop-place-test.true c.if-s-place.true); lower_bound = (omega arith, omega arith) }
+
+pub loop-place-preserved : goal.loop-place-preserved
+loop-place-preserved c =
+    let p = c.args in
+    (c.loop-place.invariant.0, omega arith, c.loop-place.invariant.2, c.loop-place.invariant.3 ∙ place_miss _ _ p.end _ p.s.now c.loop-place.invariant.2 c.loop-place-test.true c.if-s-place.false)
+
+pub returns : goal.returns
+returns c =
+    let p = c.args in
+    record { value = sym (c.loop-place.invariant.3 ∙ place_end _ _ p.end _ p.s.now c.loop-place.invariant.2 c.loop-place-test.false); lower_bound = (omega arith, omega arith) }
