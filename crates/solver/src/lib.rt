@@ -160,7 +160,12 @@ fn is_repeated(order: &[u64], i: usize) -> bool
     requires { i < length order.now }
     ensures { result ≡ repeated order.now i i }
 {
-    order[..i].contains(&order[i])
+    for k in (0..i).rev() {
+        if order[k] == order[i] {
+            return true;
+        }
+    }
+    false
 }
 
 // The colour of the region at a place; beyond the list it is that of the region 0.

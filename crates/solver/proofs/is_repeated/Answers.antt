@@ -1,18 +1,20 @@
--- `solver::is_repeated` meets its contract: the entry is one of those before it.
-use Rattle.std.proofs.Common.{◌≡◌, refl, ◌∙◌, ℕ, zero, suc, ◌≤◌, List, length, take, eqb, arith}
-use Rattle.std.proofs.Math.Bool.{or-false, or_comm}
-use Rattle.std.proofs.Math.Seq.{take-suc}
-use Rattle.std.proofs.lemmas.List.Folds.{list_any-append}
-use Rattle.std.specs.List.{list_any}
+-- `solver::is_repeated` meets its contract: the entry stands at no place from k to i.
+use Rattle.std.proofs.Common.{◌≡◌, sym, ◌∙◌, ℕ, zero, suc, ◌-◌, ◌<◌, List, eqb, ne_eqb, eq-eqb, ◌||◌, arith}
 use Rattle.solver.specs.Order.{place_at, repeated}
 use Rattle.solver.proofs.is_repeated.Goals as goal
 
--- one of the first n, from the front or from the back
-either_way : (order : List ℕ) (i n : ℕ) → n ≤ length order → list_any (λ x. eqb x (place_at order i)) (take n order) ≡ repeated order i n
+-- the last of the places, and those before it
+step : (order : List ℕ) (i n : ℕ) → 0 < n → repeated order i n ≡ (eqb (place_at order (n - 1)) (place_at order i) || repeated order i (n - 1))
 unfolding repeated
-either_way order i zero l = refl
-either_way order i (suc n) l =
-    rw (take-suc order n 0 (omega (arith, l)), list_any-append, either_way order i n (omega (arith, l)), or-false) (or_comm (repeated order i n) (eqb (place_at order n) (place_at order i)))
+step order i zero h = absurd (omega (arith, h))
+step order i (suc n) h = let e : suc n - 1 ≡ n = omega arith in rw e
+
+pub returns-then-order-k : goal.returns-then-order-k
+returns-then-order-k c = sym (c.loop-k.invariant ∙ step _ _ _ c.loop-k-test.true ∙ rw (eq-eqb _ _ c.if-order-k.true))
+
+pub loop-k-preserved : goal.loop-k-preserved
+loop-k-preserved c = c.loop-k.invariant ∙ step _ _ _ c.loop-k-test.true ∙ rw (ne_eqb _ _ c.if-order-k.false)
 
 pub returns : goal.returns
-returns c = c.contains.ensures.value ∙ either_way _ _ _ (omega arith)
+unfolding repeated
+returns c = let e : c.loop-k.k ≡ 0 = omega arith in sym (c.loop-k.invariant ∙ rw e)
